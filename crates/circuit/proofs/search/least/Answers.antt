@@ -1,0 +1,19 @@
+use Rattle.std.proofs.Common.{rules, ◌≡◌, None, length, replicate}
+use Rattle.std.proofs.lemmas.Bool.{MatchBool-at_false}
+use Rattle.circuit.specs.Search.{IsLeastAfter, NoneAfter}
+use Rattle.circuit.proofs.Found.{none_at_all}
+use Rattle.circuit.proofs.Settling.{nothing_settled}
+use Rattle.circuit.proofs.search.least.Goals as goal
+
+pub settle-requires-clause-kept : goal.settle-requires-clause-kept
+settle-requires-clause-kept c =
+    let blank : c.as_slice-2.result.now ≡ replicate (length c.gates-gates.result.now) None = search rules in
+    rw blank (nothing_settled c.gates-gates.result.now c.as_slice-3.result.now)
+
+pub returns-clause-none : goal.returns-clause-none
+returns-clause-none c =
+    let gates = c.gates-gates.result.now in
+    let root = c.place-2.result in
+    let start = c.new-inputs.result.items in
+    let none = MatchBool-at_false (IsLeastAfter gates root start c.decide.new.chosen.items) (NoneAfter gates root start × (c.decide.new.chosen.items ≡ start)) c.if-branch.false c.in_ok-decide.ensures in
+    none_at_all c.args.circuit.now gates c.args.root root start c.gates-gates.ensures.gates c.place-2.ensures c.new-inputs.ensures.items none.0

@@ -1,0 +1,22 @@
+//! Boolean circuits, and the least inputs that make a node true.
+//!
+//! A circuit is a list of gates, each over nodes that were there before it; a node is a place in that list.
+//! Each call that adds gates says what its node is worth, that older nodes keep their values, and which circuit it
+//! leaves; `least` says which inputs make a node true, the least in dictionary order, or that none do.
+//! `margrave_cli` makes its questions of these gates.
+#![tactic(auto)]
+
+mod circuit;
+mod gate;
+mod masked;
+mod search;
+mod settled;
+mod support;
+
+pub use circuit::Circuit;
+pub use gate::{Gate, Node, Parts};
+pub use search::least;
+pub use std::alloc::AllocError as NoMemory;
+
+#[cfg(test)]
+mod tests;

@@ -1,0 +1,75 @@
+ghost use Rattle.std.specs.Prelude.{◌≡◌, ◌<◌, ℕ, length, All, IfOk};
+ghost use Rattle.std.specs.List.{AllByRecursion, AllZip};
+ghost use Rattle.circuit.specs.Value.{parts_of, IsCircuit};
+ghost use Rattle.circuit.specs.Settled.{settled_at, settled_all, settled_any, settled_value, settled, StaysSettled};
+
+use crate::NoMemory;
+use crate::gate::{Gate, Node};
+use std::alloc::Global;
+
+/// What the values of the first inputs settle of each node. What the table has settled already is not evaluated again.
+pub(crate) fn settle(
+    alloc: Global,
+    gates: &[Gate],
+    table: &[Option<bool>],
+    chosen: &[bool],
+) -> Result<Vec<Option<bool>>, NoMemory>
+    requires circuit { IsCircuit gates.now }
+    requires kept { AllZip StaysSettled table.now (settled gates.now chosen.now) }
+    ensures { IfOk result (λ next. next.items ≡ settled gates.now chosen.now) }
+{
+    let mut next = Vec::with_capacity(alloc, gates.len())?;
+    for (place, gate) in gates.iter().enumerate() {
+        let value = match table[place] {
+            Some(value) => Some(value),
+            None => settle_gate(gate, next.as_slice(), chosen),
+        };
+        next.push(value)?;
+    }
+    Ok(next)
+}
+
+/// What is settled of a gate, given what is settled of its parts.
+fn settle_gate(gate: &Gate, table: &[Option<bool>], chosen: &[bool]) -> Option<bool>
+    requires { AllByRecursion (λ part. part < length table.now) (parts_of gate.now) }
+    ensures { result ≡ settled_value chosen.now table.now gate.now }
+{
+    match gate {
+        Gate::Input(number) => chosen.get(*number).copied(),
+        Gate::And(parts) => settle_all(parts.nodes(), table),
+        Gate::Or(parts) => settle_any(parts.nodes(), table),
+        Gate::Not(part) => table[part.place()].map(|value| !value),
+    }
+}
+
+/// True where all of the parts are; false as soon as one is.
+fn settle_all(parts: &[Node], table: &[Option<bool>]) -> Option<bool>
+    requires { All (λ part. part < length table.now) parts.now }
+    ensures { result ≡ settled_all (settled_at table.now) parts.now }
+{
+    let mut all = Some(true);
+    for part in parts {
+        match table[part.place()] {
+            Some(true) => {}
+            Some(false) => return Some(false),
+            None => all = None,
+        }
+    }
+    all
+}
+
+/// False where all of the parts are; true as soon as one is.
+fn settle_any(parts: &[Node], table: &[Option<bool>]) -> Option<bool>
+    requires { All (λ part. part < length table.now) parts.now }
+    ensures { result ≡ settled_any (settled_at table.now) parts.now }
+{
+    let mut any = Some(false);
+    for part in parts {
+        match table[part.place()] {
+            Some(false) => {}
+            Some(true) => return Some(true),
+            None => any = None,
+        }
+    }
+    any
+}

@@ -1,0 +1,4 @@
+pub mod Matching
+pub mod Decision
+pub mod Standard
+pub mod List

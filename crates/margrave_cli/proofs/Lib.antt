@@ -1,0 +1,10 @@
+pub mod PlainNumbers
+pub mod Writing
+pub mod Runs
+pub mod Sources
+pub mod BlankWords
+pub mod ConfigurationLines
+pub mod LeastAnswer
+pub mod ScriptLines
+pub mod ScriptTexts
+pub mod Completeness

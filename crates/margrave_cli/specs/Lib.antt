@@ -1,0 +1,13 @@
+pub mod Words
+pub mod Names
+pub mod Literals
+pub mod Script
+pub mod Asked
+pub mod Configuration
+pub mod Refusal
+pub mod Text
+pub mod Answer
+pub mod SourceAlone
+pub mod Run
+pub mod Complete
+pub mod Endings

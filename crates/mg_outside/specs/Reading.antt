@@ -1,0 +1,19 @@
+-- What an answer of a read says of the bytes that a file holds, where these are told.
+use Rattle.std.specs.Prelude.{◌≡◌, ℕ, ◌<◌, ◌≤◌, List, length, Option, IfSome}
+use Rattle.mg_outside.specs.declared.files.FileFault.{FileFault}
+use Rattle.mg_outside.specs.declared.files.FileFault.TheVariants as fault
+
+-- the bytes are those that the file holds, where these are told
+abbrev pub AreTold : Option (List ℕ) → List ℕ → Type 0
+AreTold told bytes = IfSome told (λ held. bytes ≡ held)
+
+-- the bytes of the file are given, and they are no more than the most that was asked for
+pub record Gives (told : Option (List ℕ)) (most : ℕ) (bytes : List ℕ) : Type 0 where
+  pub held : AreTold told bytes
+  pub within : length bytes ≤ most
+
+-- more bytes than the most were counted, and where they are told there are more
+abbrev pub Explains : Option (List ℕ) → ℕ → FileFault → Type 0
+Explains told most (fault.TooLong given) = (most < given) × IfSome told (λ held. most < length held)
+Explains told most fault.Failed = Unit {0}
+Explains told most fault.NoMemory = Unit {0}
