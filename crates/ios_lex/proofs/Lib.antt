@@ -1,3 +1,14 @@
 pub mod Cuts
 pub mod DecimalTexts
 pub mod AddressParts
+pub mod NameTables
+pub mod Spellings
+pub mod PrefixMasks
+pub mod LineWords
+pub mod RawTexts
+pub mod Occurrences
+pub mod BannerLines
+pub mod Parts
+pub mod OneReading
+pub mod EachReading
+pub mod OpeningWords

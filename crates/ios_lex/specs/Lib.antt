@@ -1,3 +1,10 @@
 pub mod Cut
 pub mod Decimal
 pub mod Address
+pub mod Names
+pub mod Mask
+pub mod Words
+pub mod RawLines
+pub mod Banner
+pub mod Lines
+pub mod LineReadings

@@ -52,3 +52,67 @@ fn words_are_kept_and_cut(rt: HostRuntime) -> Result<(), Fail> {
     one_address();
     Ok(())
 }
+
+#[test]
+fn protocols_and_messages_have_names_or_numbers(rt: HostRuntime) {
+    let protocols: [(&str, Option<u8>); 8] = [
+        ("icmp", Some(1)),
+        ("ahp", Some(51)),
+        ("pim", Some(103)),
+        ("255", Some(255)),
+        ("256", None),
+        ("ip", None),
+        ("TCP", None),
+        ("", None),
+    ];
+    for (word, want) in protocols {
+        assert_eq!(rt; protocol(word.as_bytes()), want, "{word}");
+    }
+    let messages: [(&str, Option<(u8, Option<u8>)>); 7] = [
+        ("echo", Some((8, None))),
+        ("echo-reply", Some((0, None))),
+        ("port-unreachable", Some((3, Some(3)))),
+        ("traceroute", Some((30, None))),
+        ("13", Some((13, None))),
+        ("256", None),
+        ("echo-", None),
+    ];
+    for (word, want) in messages {
+        assert_eq!(rt; icmp(word.as_bytes()), want, "{word}");
+    }
+}
+
+#[test]
+fn ports_have_names_or_numbers(rt: HostRuntime) {
+    let table: [(&str, Option<u16>, Option<u16>); 8] = [
+        ("www", Some(80), None),
+        ("domain", Some(53), Some(53)),
+        ("syslog", None, Some(514)),
+        ("kshell", Some(544), None),
+        ("non500-isakmp", None, Some(4500)),
+        ("65535", Some(65_535), Some(65_535)),
+        ("65536", None, None),
+        ("80x", None, None),
+    ];
+    for (word, of_tcp, of_udp) in table {
+        assert_eq!(rt; port(word.as_bytes(), true), of_tcp, "{word}");
+        assert_eq!(rt; port(word.as_bytes(), false), of_udp, "{word}");
+    }
+    one_name();
+}
+
+#[test]
+fn masks_have_ones_and_then_zeros(rt: HostRuntime) {
+    let table: [(u32, Option<u8>); 7] = [
+        (0, Some(0)),
+        (0x8000_0000, Some(1)),
+        (0xffff_ff00, Some(24)),
+        (0xffff_ffff, Some(32)),
+        (0x0000_00ff, None),
+        (0xff00_ff00, None),
+        (1, None),
+    ];
+    for (mask, want) in table {
+        assert_eq!(rt; prefix_len(mask), want, "{mask:x}");
+    }
+}

@@ -1,5 +1,5 @@
 -- A run that has nothing to refuse, and of which no fault came, is done.
-use Rattle.std.proofs.Common.{◌≡◌, ℕ, ◌<◌, ◌≤◌, ◌⊎◌, inl, inr, List, length, Option, Some, refl, arith}
+use Rattle.std.proofs.Common.{◌≡◌, ℕ, ◌≤◌, ◌⊎◌, inl, inr, List, length, Option, Some, refl, arith}
 use Rattle.mg_outside.specs.Faults.{Rose}
 use Rattle.mg_outside.specs.Reading.{Gives}
 use Rattle.ios_acl.specs.declared.standard.SourceRule.{SourceRule}
@@ -16,8 +16,8 @@ use Rattle.margrave_cli.proofs.ScriptTexts.{same_question, not_both}
 unread_never : (file : List ℕ) (told : Option (List ℕ)) (rose : Type 0) (bytes : List ℕ) → told ≡ Some bytes → length bytes ≤ most_bytes → (rose → ⊥) → (end : Cause) (text : List ℕ) → IsUnread file told rose end text → ⊥
 unread_never file told rose bytes is_told within calm end text (fault r e t) = calm r
 unread_never file told rose bytes is_told within calm end text (too_long given more held e t) =
-    let longer : most_bytes < length bytes = rw is_told at held in
-    omega (arith, longer, within)
+    let as_many : given ≤ length bytes = rw is_told at held in
+    omega (arith, more, as_many, within)
 
 -- bytes that are given are those that are told
 given_told : (told : Option (List ℕ)) (bytes other : List ℕ) → told ≡ Some bytes → Gives told most_bytes other → other ≡ bytes

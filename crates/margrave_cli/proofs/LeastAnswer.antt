@@ -3,7 +3,7 @@ use Rattle.std.proofs.Common.{◌≡◌, ℕ, ◌^◌, ◌<◌, ◌⊎◌, inl, 
 use borrow.Author.Count.{below_more}
 use Rattle.std.specs.List.{AllByRecursion}
 use Rattle.std.specs.Fmt.{decimal}
-use Rattle.std.proofs.lemmas.Bool.{false≢true, cases_lt}
+use Rattle.std.proofs.lemmas.Bool.{false≢true, and_parts, cases_lt}
 use Rattle.std.proofs.lemmas.Bool.Decides.{eqb_tells}
 use Rattle.ios_acl.specs.declared.entry.Entry.{Entry}
 use Rattle.ios_acl.specs.declared.standard.SourceRule.{SourceRule}
@@ -59,18 +59,13 @@ answers_test : List Entry → ℕ → ℕ → ℕ → Bool
 answers_test entries address wildcard source =
     matches_wildcard source address wildcard && is_permit (decision entries (packet_from source)).0
 
-both : (a b : Bool) → (a && b) ≡ true → (a ≡ true) × (b ≡ true)
-both true true is = (refl, refl)
-both true false is = (refl, is)
-both false b is = absurd (cc)
-
 both_true : (a b : Bool) → a ≡ true → b ≡ true → (a && b) ≡ true
 both_true a b first second = rw (first, second) refl
 
 test_answers : (entries : List Entry) (address wildcard source : ℕ) → source < 2 ^ 32 → answers_test entries address wildcard source ≡ true → Answers entries address wildcard source
 unfolding answers_test
 test_answers entries address wildcard source small passes =
-    let parts = both (matches_wildcard source address wildcard) (is_permit (decision entries (packet_from source)).0) passes in
+    let parts = and_parts (matches_wildcard source address wildcard) (is_permit (decision entries (packet_from source)).0) passes in
     record { is_address = small; in_range = parts.0; permitted = parts.1 }
 
 answers_test_is : (entries : List Entry) (address wildcard source : ℕ) → Answers entries address wildcard source → answers_test entries address wildcard source ≡ true

@@ -2,6 +2,7 @@
 use Rattle.std.proofs.Common.{◌≡◌, ℕ, ◌+◌, ◌*◌, ◌^◌, ◌<◌, ◌≤◌, ◌-◌, map, Bool, true, false, ◌&&◌, List, [], ◌∷◌, ◌++◌, length, take, drop, get_or, cond, Some, refl, sym, ap, ◌∙◌, arith, if◌then◌else◌}
 use Rattle.std.specs.List.{AllByRecursion, list_all}
 use Rattle.std.proofs.Math.Pow.{pow_mono}
+use Rattle.std.proofs.lemmas.Bool.{and_parts}
 use Rattle.std.proofs.lemmas.Grind.{pow_more}
 use Rattle.std.proofs.lemmas.List.{length_push, length-take, take_more, at_drop_more, map_push}
 use mir.Val.{bool_byte}
@@ -95,16 +96,11 @@ pub record Asks (gates : List Gate) (root : ℕ) (entries : List Entry) (address
   pub inputs : input_count gates ≡ 32
   pub value : (inputs : List Bool) → length inputs ≡ 32 → value gates inputs root ≡ (permits_source entries (number inputs) && agrees (number inputs) address wildcard)
 
-both : (a b : Bool) → (a && b) ≡ true → (a ≡ true) × (b ≡ true)
-both true true is = (refl, refl)
-both true false is = (refl, is)
-both false b is = absurd (cc)
-
 -- inputs that satisfy it are an answer
 pub answers_by : (gates : List Gate) (root : ℕ) (entries : List Entry) (address wildcard : ℕ) → Asks gates root entries address wildcard → AllByRecursion LooksAtSource entries → (inputs : List Bool) → Satisfies gates root inputs → Answers entries address wildcard (number inputs)
 answers_by gates root entries address wildcard asks looks inputs satisfies =
     let long : length inputs ≡ 32 = satisfies.count ∙ asks.inputs in
-    let parts = both (permits_source entries (number inputs)) (agrees (number inputs) address wildcard) (sym (asks.value inputs long) ∙ satisfies.holds) in
+    let parts = and_parts (permits_source entries (number inputs)) (agrees (number inputs) address wildcard) (sym (asks.value inputs long) ∙ satisfies.holds) in
     record {
       is_address = rw long at (number-lt inputs);
       in_range = parts.1;

@@ -22,7 +22,7 @@ most_bytes = 4194304
 -- a file that is not read ends the run: its count of faults rose, or it is too long
 pub data IsUnread (file : List ℕ) (told : Option (List ℕ)) (rose : Type 0) (end : Cause) (text : List ℕ) : Type 0 where
   fault : rose → end ≡ cause.ReadFault file → text ≡ fault_line file → IsUnread file told rose end text
-  too_long : (given : ℕ) → most_bytes < given → IfSome told (λ held. most_bytes < length held) → end ≡ cause.Refused file 0 (reason.TooLong given) → text ≡ refused_line file 0 (reason.TooLong given) → IsUnread file told rose end text
+  too_long : (given : ℕ) → most_bytes < given → IfSome told (λ held. given ≤ length held) → end ≡ cause.Refused file 0 (reason.TooLong given) → text ≡ refused_line file 0 (reason.TooLong given) → IsUnread file told rose end text
 
 -- the run behind the loaded line, over the entries of the list of this number: the script has to name that list
 pub data IsAnswerRun (name : List ℕ) (question : Question) (list : ℕ) (entries : List Entry) (end : Cause) (text : List ℕ) : Type 0 where

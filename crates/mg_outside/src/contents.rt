@@ -1,4 +1,4 @@
-ghost use Rattle.std.specs.Prelude.{◌≡◌, ◌≤◌, ◌≢◌, ◌∷◌, [], length, Some, IfOk, IfErr, OnOk, OnErr, option_map};
+ghost use Rattle.std.specs.Prelude.{◌≡◌, ◌<◌, ◌≤◌, ◌≢◌, ◌∷◌, [], length, Some, IfOk, IfErr, OnOk, OnErr, option_map};
 ghost use Rattle.mg_outside.specs.Reading.{Explains};
 ghost use Rattle.mg_outside.specs.Memory.{bytes_under};
 
@@ -36,6 +36,7 @@ impl Entry {
         ensures bytes { IfOk result (λ bytes. bytes.items ≡ self.now.1) }
         ensures within { IfOk result (λ bytes. length bytes.items ≤ most) }
         ensures too_long { IfErr result (Explains (Some self.now.1) most) }
+        ensures long { most < length self.now.1 → result ≡ Err (FileFault.TooLong (length self.now.1)) }
         ensures never_fails { result ≢ Err FileFault.Failed }
     {
         let given = self.bytes.len() as u64;

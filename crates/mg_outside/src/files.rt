@@ -1,4 +1,4 @@
-ghost use Rattle.std.specs.Prelude.{◌≡◌, ◌≤◌, ℕ, List, Option, IfOk, IfErr};
+ghost use Rattle.std.specs.Prelude.{◌≡◌, ◌≢◌, ◌+◌, ◌≤◌, ℕ, List, Option, IfOk, IfErr};
 ghost use Rattle.mg_outside.specs.Faults.{Rose};
 ghost use Rattle.mg_outside.specs.Reading.{Gives, Explains};
 
@@ -28,6 +28,8 @@ pub trait Files {
         ensures bytes { IfOk result (λ bytes. Gives (holds self.old name.now) most bytes.items) }
         ensures too_long { IfErr result (Explains (holds self.old name.now) most) }
         ensures failed { result ≡ Err FileFault.Failed → Rose (faults self.old name.now) (faults self.new name.now) }
+        ensures no_fault { result ≢ Err FileFault.Failed → (other : List ℕ) → faults self.new other ≡ faults self.old other }
+        ensures at_most_one { (other : List ℕ) → faults self.new other ≤ faults self.old other + 1 }
         ensures later { (other : List ℕ) → faults self.old other ≤ faults self.new other }
         ensures same { (other : List ℕ) → holds self.new other ≡ holds self.old other };
 }

@@ -94,7 +94,7 @@ fn note_failure(alloc: Global, failed: &mut Vec<Name>, name: &str) -> FileFault
 }
 
 impl Files for MemFiles {
-    ghost use Rattle.std.specs.Prelude.{◌≡◌, ◌≤◌, ◌⊎◌, ℕ, List, true, IfOk, IfErr};
+    ghost use Rattle.std.specs.Prelude.{◌≡◌, ◌<◌, ◌≤◌, ◌⊎◌, ℕ, List, true, false, length, IfSome, IfOk, IfErr};
     ghost use Rattle.mg_outside.specs.Faults.{Rose};
     ghost use Rattle.mg_outside.specs.Memory.{bytes_under, failures, read_is_to_fail, after_read};
     ghost use Rattle.mg_outside.specs.Reading.{Gives, Explains};
@@ -111,6 +111,7 @@ impl Files for MemFiles {
         ensures same { (other : List ℕ) → bytes_under other self.new.entries ≡ bytes_under other self.old.entries }
         ensures cause { result ≡ Err FileFault.Failed → read_is_to_fail self.old name.now ≡ true }
         ensures fails { read_is_to_fail self.old name.now ≡ true → (result ≡ Err FileFault.Failed) ⊎ (result ≡ Err FileFault.NoMemory) }
+        ensures long { read_is_to_fail self.old name.now ≡ false → IfSome (bytes_under name.now self.old.entries) (λ held. most < length held → result ≡ Err (FileFault.TooLong (length held))) }
         ensures after { self.new ≡ after_read self.old name.now result }
     {
         self.reads = self.reads.saturating_add(1);

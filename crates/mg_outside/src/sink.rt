@@ -1,4 +1,4 @@
-ghost use Rattle.std.specs.Prelude.{◌≡◌, ◌≤◌, ℕ, List, Option, OnOk, OnErr};
+ghost use Rattle.std.specs.Prelude.{◌≡◌, ◌≢◌, ◌+◌, ◌≤◌, ℕ, List, Option, OnOk, OnErr};
 ghost use Rattle.mg_outside.specs.Faults.{Rose};
 ghost use Rattle.mg_outside.specs.Taking.{Takes, TakesFront};
 
@@ -24,5 +24,8 @@ pub trait Sink {
         ensures ok { OnOk result (Takes (taken self.old) (taken self.new) bytes.now) }
         ensures err { OnErr result (TakesFront (taken self.old) (taken self.new) bytes.now) }
         ensures failed { result ≡ Err SinkFault.Failed → Rose (faults self.old) (faults self.new) }
+        ensures no_fault { result ≢ Err SinkFault.Failed → faults self.new ≡ faults self.old }
+        ensures at_most_one { faults self.new ≤ faults self.old + 1 }
+        ensures no_memory { result ≡ Err SinkFault.NoMemory → taken self.new ≡ taken self.old }
         ensures later { faults self.old ≤ faults self.new };
 }

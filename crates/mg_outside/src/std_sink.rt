@@ -29,7 +29,7 @@ impl<'a, P: Print> StdSink<'a, P> {
 }
 
 impl<P: Print> Sink for StdSink<'_, P> {
-    ghost use Rattle.std.specs.Prelude.{◌≡◌, ◌≢◌, ◌≤◌, None, OnOk, OnErr};
+    ghost use Rattle.std.specs.Prelude.{◌≡◌, ◌≢◌, ◌+◌, ◌≤◌, None, OnOk, OnErr};
     ghost use Rattle.mg_outside.specs.Faults.{Rose};
     ghost use Rattle.mg_outside.specs.Taking.{Takes, TakesFront};
 
@@ -43,7 +43,8 @@ impl<P: Print> Sink for StdSink<'_, P> {
         ensures failed { result ≡ Err SinkFault.Failed → Rose self.old self.new }
         ensures later { self.old ≤ self.new }
         ensures takes_no_memory { result ≢ Err SinkFault.NoMemory }
-        ensures ok_is_no_fault { OnOk result (self.new ≡ self.old) }
+        ensures no_fault { result ≢ Err SinkFault.Failed → self.new ≡ self.old }
+        ensures at_most_one { self.new ≤ self.old + 1 }
     {
         let mut rest = bytes;
         while !rest.is_empty() {

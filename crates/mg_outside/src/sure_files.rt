@@ -38,7 +38,7 @@ impl SureFiles {
 }
 
 impl Files for SureFiles {
-    ghost use Rattle.std.specs.Prelude.{◌≡◌, Some, [], IfOk, IfErr, unwrap_or, ◌≢◌};
+    ghost use Rattle.std.specs.Prelude.{◌≡◌, ◌≢◌, ◌<◌, [], length, Some, unwrap_or, IfOk, IfErr};
     ghost use Rattle.mg_outside.specs.Memory.{bytes_under};
     ghost use Rattle.mg_outside.specs.Reading.{Gives, Explains};
 
@@ -46,7 +46,13 @@ impl Files for SureFiles {
 
     ghost faults = { λ _ _. 0 };
 
-    fn read(&mut self, alloc: Global, name: &str, most: u64) -> Result<Vec<u8>, FileFault> {
+    fn read(&mut self, alloc: Global, name: &str, most: u64) -> Result<Vec<u8>, FileFault>
+        ensures bytes { IfOk result (λ bytes. Gives (Some (unwrap_or (bytes_under name.now self.old) [])) most bytes.items) }
+        ensures too_long { IfErr result (Explains (Some (unwrap_or (bytes_under name.now self.old) [])) most) }
+        ensures long { most < length (unwrap_or (bytes_under name.now self.old) []) → result ≡ Err (FileFault.TooLong (length (unwrap_or (bytes_under name.now self.old) []))) }
+        ensures never_fails { result ≢ Err FileFault.Failed }
+        ensures unchanged { self.new ≡ self.old }
+    {
         match self.contents.find(name) {
             Some(entry) => entry.read(alloc, most),
             None => Ok(Vec::new(alloc)),

@@ -1,0 +1,13 @@
+use Rattle.std.proofs.Common.{◌≡◌, true, get_or, sym, arith, rules}
+use Rattle.std.proofs.lemmas.List.Sums.{position_or_len_is}
+use Rattle.ios_lex.specs.Words.{is_gap}
+use Rattle.ios_lex.proofs.words.word_len.Goals as goal
+
+pub returns-then-is_gap-clause-value : goal.returns-then-is_gap-clause-value
+returns-then-is_gap-clause-value c =
+    let stops : is_gap (get_or c.args.text.now c.loop-i.i 0) ≡ true = search rules in
+    sym (position_or_len_is is_gap c.args.text.now c.loop-i.i 0 (omega arith) c.loop-i.invariant (λ _. stops))
+
+pub returns-clause-value : goal.returns-clause-value
+returns-clause-value c =
+    sym (position_or_len_is is_gap c.args.text.now _ 0 (omega arith) (λ k inside. c.loop-i.invariant k (omega arith)) (λ past. absurd (omega arith)))
