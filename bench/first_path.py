@@ -201,21 +201,26 @@ def versions(program, z3, folder):
     )
 
 
-def entry_count(word):
-    if word.isdecimal() and 2 <= int(word) <= 5000:
-        return int(word)
-    raise argparse.ArgumentTypeError(f"{word} is not from 2 to 5000")
+def entry_count(fewest):
+    """Reads the words that are numbers of entries, from the fewest to 5000."""
+
+    def read(word):
+        if word.isdecimal() and fewest <= int(word) <= 5000:
+            return int(word)
+        raise argparse.ArgumentTypeError(f"{word} is not from {fewest} to 5000")
+
+    return read
 
 
-def arguments():
-    parser = argparse.ArgumentParser(description=__doc__, formatter_class=argparse.RawDescriptionHelpFormatter)
+def arguments(description, sizes, fewest):
+    parser = argparse.ArgumentParser(description=description, formatter_class=argparse.RawDescriptionHelpFormatter)
     parser.add_argument("program", metavar="PROGRAM")
-    parser.add_argument("sizes", metavar="ENTRIES", nargs="*", type=entry_count, default=SIZES)
+    parser.add_argument("sizes", metavar="ENTRIES", nargs="*", type=entry_count(fewest), default=sizes)
     return parser.parse_args()
 
 
 def main():
-    given = arguments()
+    given = arguments(__doc__, SIZES, 2)
     program = str(Path(given.program).resolve())
     z3 = shutil.which("z3")
     with tempfile.TemporaryDirectory() as name:

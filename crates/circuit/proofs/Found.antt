@@ -90,29 +90,38 @@ same_apart [] rest v w (suc number) h = refl
 same_apart (x ∷ chosen) rest v w zero h = refl
 same_apart (x ∷ chosen) rest v w (suc number) h = same_apart chosen rest v w number (λ e. h (ap (λ n. suc n) e))
 
-other_value : (gates : List Gate) (root : ℕ) (support chosen rest : List Bool) (v w : Bool) → IsSupport gates root support → value_at support (length chosen) ≡ false →
+other_value : (gates : List Gate) (root : ℕ) (support chosen rest : List Bool) (v w : Bool) → IsSupport gates root chosen support → value_at support (length chosen) ≡ false →
     Satisfies gates root (chosen ++ v ∷ rest) → Satisfies gates root (chosen ++ w ∷ rest)
 other_value gates root support chosen rest v w h off s =
     let agree : AgreeOn support (chosen ++ w ∷ rest) (chosen ++ v ∷ rest) =
     λ number needed. same_apart chosen rest w v number (λ e. both_ways (value_at support number) (ap (value_at support) e ∙ off) needed) in
     record {
       count = omega (arith, s.count, length-append chosen (v ∷ rest), length-append chosen (w ∷ rest));
-      holds = h.enough (chosen ++ w ∷ rest) (chosen ++ v ∷ rest) agree ∙ s.holds;
+      holds = h.enough (w ∷ rest) (v ∷ rest) agree ∙ s.holds;
     }
 
-pub none_unsupported : (gates : List Gate) (root : ℕ) (support chosen : List Bool) → IsSupport gates root support → value_at support (length chosen) ≡ false → length chosen < input_count gates →
+-- what cannot change the root where nothing is chosen cannot do so afterwards
+pub support_after : (gates : List Gate) (root : ℕ) (support chosen : List Bool) → IsSupport gates root [] support → IsSupport gates root chosen support
+support_after gates root support chosen h = record { count = h.count; enough = λ xs ys agree. h.enough (chosen ++ xs) (chosen ++ ys) agree }
+
+none_unsupported : (gates : List Gate) (root : ℕ) (support chosen : List Bool) → IsSupport gates root chosen support → value_at support (length chosen) ≡ false → length chosen < input_count gates →
     NoneAfter gates root (chosen ++ false ∷ []) → NoneAfter gates root chosen
 none_unsupported gates root support chosen h off few none =
     none_both gates root chosen few none (λ rest s.
     none rest (one_more gates root chosen false rest (other_value gates root support chosen rest true false h off (subst (Satisfies gates root) (append_assoc chosen (true ∷ []) rest) s))))
 
 -- ---- what the functions of the search read and return
+pub none_unneeded : (gates : List Gate) (root number : ℕ) (support chosen new : List Bool) → IsSupport gates root chosen support → number ≡ length new → value_at support number ≡ false → length chosen < input_count gates →
+    NoneAfter gates root (chosen ++ false ∷ []) → new ≡ chosen → NoneAfter gates root chosen × (new ≡ chosen)
+none_unneeded gates root number support chosen new h long off few none kept =
+    (none_unsupported gates root support chosen h (ap (value_at support) (sym (long ∙ ap length kept)) ∙ off) few none, kept)
+
 pub at_root : (gates : List Gate) (root : ℕ) (chosen : List Bool) (table : List (Option Bool)) (d o : Option Bool) → table ≡ settled gates chosen → root < length gates → get_or table root d ≡ o → settled_at (settled gates chosen) root ≡ o
 at_root gates root chosen table d o e h r =
     let long = length-settled gates chosen in
     get_or_default (settled gates chosen) root (Some false) d (omega arith) ∙ ap (λ t. get_or t root d) (sym e) ∙ r
 
-pub filled : (gates : List Gate) (root n : ℕ) (support chosen inputs : List Bool) → IsSupport gates root support → settled_at (settled gates chosen) root ≡ Some true → length chosen ≤ input_count gates → n ≡ length chosen →
+pub filled : (gates : List Gate) (root n : ℕ) (support chosen inputs : List Bool) → IsSupport gates root [] support → settled_at (settled gates chosen) root ≡ Some true → length chosen ≤ input_count gates → n ≡ length chosen →
     inputs ≡ take (length support) chosen ++ replicate (length support - n) false → IsLeastAfter gates root chosen inputs
 filled gates root n support chosen inputs h e few m is =
     let count = h.count in

@@ -1,7 +1,10 @@
 pub mod Agree
 pub mod Below
 pub mod Extend
+pub mod Added
 pub mod Numbers
+pub mod Comparison
+pub mod Pairs
 pub mod Settling
 pub mod Depends
 pub mod Found

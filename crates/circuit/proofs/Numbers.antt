@@ -74,3 +74,7 @@ pub bits_of-number : (xs : List Bool) → bits_of (length xs) (number xs) ≡ xs
 bits_of-number xs =
     let whole : number xs ≡ 0 * 2 ^ length xs + number xs = omega arith in
     ap (bits_of (length xs)) whole ∙ bits_of-high xs 0
+
+-- lists of one length that stand for the same number are the same
+pub number-injective : (xs ys : List Bool) → length xs ≡ length ys → number xs ≡ number ys → xs ≡ ys
+number-injective xs ys e same = sym (bits_of-number xs) ∙ ap₂ bits_of e same ∙ bits_of-number ys

@@ -1,5 +1,5 @@
 -- What a choice of the first inputs settles is right, stays, and is everything once all inputs are chosen.
-use Rattle.std.proofs.Common.{◌≡◌, ℕ, ◌+◌, ◌<◌, ◌≤◌, zero, suc, replicate, Bool, true, false, not, ◌&&◌, ◌||◌, cond, Option, Some, None, is_some, List, [], ◌∷◌, ◌++◌, length, get_or, take, drop, refl, sym, ap, subst, ◌∙◌, inl, inr, arith, append_assoc, append-nil}
+use Rattle.std.proofs.Common.{◌≡◌, ℕ, ◌+◌, ◌<◌, ◌≤◌, zero, suc, replicate, Bool, true, false, not, if◌then◌else◌, ◌&&◌, ◌||◌, cond, Option, Some, None, is_some, List, [], ◌∷◌, ◌++◌, length, get_or, take, drop, refl, sym, ap, ap₂, subst, ◌∙◌, inl, inr, arith, append_assoc, append-nil}
 use Rattle.std.specs.Prelude.{IfSome, slice_get}
 use Rattle.std.specs.Option.{option_map}
 use Rattle.std.specs.List.{fold, AllZip, AllByRecursion, list_all, list_any}
@@ -11,7 +11,7 @@ use Rattle.std.proofs.lemmas.Bool.{cases_lt, and_right, or_right}
 use Rattle.circuit.specs.declared.gate.Gate.{Gate}
 use Rattle.circuit.specs.declared.gate.Gate.TheVariants as gate
 use Rattle.circuit.specs.Value.{value_at, gate_value, values, value, parts_of, is_input, input_count, IsNumbered, IsCircuit}
-use Rattle.circuit.specs.Settled.{settled_at, settled_and, settled_or, settled_all, settled_any, settled_value, settled, StaysSettled}
+use Rattle.circuit.specs.Settled.{settled_at, settled_and, settled_or, settled_all, settled_any, settled_ite, settled_value, settled, StaysSettled}
 
 abbrev step : List Bool → List (Option Bool) → Gate → List (Option Bool)
 step chosen so_far g = so_far ++ settled_value chosen so_far g ∷ []
@@ -101,6 +101,21 @@ Says-any : (node : ℕ → Option Bool) (val : ℕ → Bool) → ((k : ℕ) → 
 Says-any node val h [] = refl
 Says-any node val h (part ∷ parts) = Says-or (node part) (settled_any node parts) (val part) (list_any val parts) (h part) (Says-any node val h parts)
 
+Says-ite : (o p q : Option Bool) (b c d : Bool) → Says o b → Says p c → Says q d → Says (settled_ite o p q) (if b then c else d)
+Says-ite (Some true) p q true c d h i j = i
+Says-ite (Some true) p q false c d h i j = cc
+Says-ite (Some false) p q true c d h i j = cc
+Says-ite (Some false) p q false c d h i j = j
+Says-ite None (Some true) (Some true) true c d h i j = i
+Says-ite None (Some true) (Some true) false c d h i j = j
+Says-ite None (Some false) (Some false) true c d h i j = i
+Says-ite None (Some false) (Some false) false c d h i j = j
+Says-ite None (Some true) (Some false) b c d h i j = tt
+Says-ite None (Some false) (Some true) b c d h i j = tt
+Says-ite None (Some true) None b c d h i j = tt
+Says-ite None (Some false) None b c d h i j = tt
+Says-ite None None q b c d h i j = tt
+
 Says-input : (chosen rest : List Bool) (number : ℕ) → Says (slice_get chosen number) (value_at (chosen ++ rest) number)
 Says-input [] rest number = tt
 Says-input (v ∷ chosen) rest zero = refl
@@ -111,6 +126,9 @@ Says-gate chosen rest table vs (gate.Input number) z = Says-input chosen rest nu
 Says-gate chosen rest table vs (gate.And parts) z = Says-all (settled_at table) (value_at vs) (λ k. zip_at Says table vs k (Some false) false refl z) parts
 Says-gate chosen rest table vs (gate.Or parts) z = Says-any (settled_at table) (value_at vs) (λ k. zip_at Says table vs k (Some false) false refl z) parts
 Says-gate chosen rest table vs (gate.Not part) z = Says-not (settled_at table part) (value_at vs part) (zip_at Says table vs part (Some false) false refl z)
+Says-gate chosen rest table vs (gate.Ite condition a b) z =
+    let at : (k : ℕ) → Says (settled_at table k) (value_at vs k) = λ k. zip_at Says table vs k (Some false) false refl z in
+    Says-ite (settled_at table condition) (settled_at table a) (settled_at table b) (value_at vs condition) (value_at vs a) (value_at vs b) (at condition) (at a) (at b)
 
 settled_says : (gates : List Gate) (chosen rest : List Bool) → AllZip Says (settled gates chosen) (values gates (chosen ++ rest))
 unfolding settled values
@@ -164,6 +182,30 @@ Stays-not : (a c : Option Bool) → StaysSettled a c → StaysSettled (option_ma
 Stays-not (Some v) c p = ap (option_map not) p
 Stays-not None c p = tt
 
+-- what both parts agree on stays, whatever comes to be settled of the condition
+alike_true : (c : Option Bool) → settled_ite c (Some true) (Some true) ≡ Some true
+alike_true (Some true) = refl
+alike_true (Some false) = refl
+alike_true None = refl
+
+alike_false : (c : Option Bool) → settled_ite c (Some false) (Some false) ≡ Some false
+alike_false (Some true) = refl
+alike_false (Some false) = refl
+alike_false None = refl
+
+Stays-ite : (o p q c d e : Option Bool) → StaysSettled o c → StaysSettled p d → StaysSettled q e → StaysSettled (settled_ite o p q) (settled_ite c d e)
+Stays-ite (Some true) (Some v) q c d e h i j = ap (λ x. settled_ite x d e) h ∙ i
+Stays-ite (Some true) None q c d e h i j = tt
+Stays-ite (Some false) p (Some v) c d e h i j = ap (λ x. settled_ite x d e) h ∙ j
+Stays-ite (Some false) p None c d e h i j = tt
+Stays-ite None (Some true) (Some true) c d e h i j = ap₂ (settled_ite c) i j ∙ alike_true c
+Stays-ite None (Some false) (Some false) c d e h i j = ap₂ (settled_ite c) i j ∙ alike_false c
+Stays-ite None (Some true) (Some false) c d e h i j = tt
+Stays-ite None (Some false) (Some true) c d e h i j = tt
+Stays-ite None (Some true) None c d e h i j = tt
+Stays-ite None (Some false) None c d e h i j = tt
+Stays-ite None None q c d e h i j = tt
+
 Stays-all : (node later : ℕ → Option Bool) → ((k : ℕ) → StaysSettled (node k) (later k)) → (parts : List ℕ) → StaysSettled (settled_all node parts) (settled_all later parts)
 Stays-all node later h [] = refl
 Stays-all node later h (part ∷ parts) = Stays-and (node part) (settled_all node parts) (later part) (settled_all later parts) (h part) (Stays-all node later h parts)
@@ -182,6 +224,9 @@ Stays-gate chosen rest table later (gate.Input number) z = Stays-input chosen re
 Stays-gate chosen rest table later (gate.And parts) z = Stays-all (settled_at table) (settled_at later) (λ k. zip_at StaysSettled table later k (Some false) (Some false) refl z) parts
 Stays-gate chosen rest table later (gate.Or parts) z = Stays-any (settled_at table) (settled_at later) (λ k. zip_at StaysSettled table later k (Some false) (Some false) refl z) parts
 Stays-gate chosen rest table later (gate.Not part) z = Stays-not (settled_at table part) (settled_at later part) (zip_at StaysSettled table later part (Some false) (Some false) refl z)
+Stays-gate chosen rest table later (gate.Ite condition a b) z =
+    let at : (k : ℕ) → StaysSettled (settled_at table k) (settled_at later k) = λ k. zip_at StaysSettled table later k (Some false) (Some false) refl z in
+    Stays-ite (settled_at table condition) (settled_at table a) (settled_at table b) (settled_at later condition) (settled_at later a) (settled_at later b) (at condition) (at a) (at b)
 
 pub settled_stays : (gates : List Gate) (chosen rest : List Bool) → AllZip StaysSettled (settled gates chosen) (settled gates (chosen ++ rest))
 unfolding settled
@@ -222,6 +267,11 @@ known-not : (a : Option Bool) → IsKnown a → IsKnown (option_map not a)
 known-not (Some v) p = refl
 known-not None p = p
 
+known-ite : (o p q : Option Bool) → IsKnown o → IsKnown p → IsKnown q → IsKnown (settled_ite o p q)
+known-ite (Some true) p q h i j = i
+known-ite (Some false) p q h i j = j
+known-ite None p q h i j = cc
+
 known-all : (node : ℕ → Option Bool) → ((k : ℕ) → IsKnown (node k)) → (parts : List ℕ) → IsKnown (settled_all node parts)
 known-all node h [] = refl
 known-all node h (part ∷ parts) = known-and (node part) (settled_all node parts) (h part) (known-all node h parts)
@@ -249,12 +299,15 @@ IsInputBelow count (gate.Input number) = number < count
 IsInputBelow count (gate.And parts) = Unit {0}
 IsInputBelow count (gate.Or parts) = Unit {0}
 IsInputBelow count (gate.Not part) = Unit {0}
+IsInputBelow count (gate.Ite condition a b) = Unit {0}
 
 known-gate : (chosen : List Bool) (table : List (Option Bool)) (g : Gate) → AllByRecursion IsKnown table → IsInputBelow (length chosen) g → IsKnown (settled_value chosen table g)
 known-gate chosen table (gate.Input number) h below = known-input chosen number below
 known-gate chosen table (gate.And parts) h below = known-all (settled_at table) (known_at table h) parts
 known-gate chosen table (gate.Or parts) h below = known-any (settled_at table) (known_at table h) parts
 known-gate chosen table (gate.Not part) h below = known-not (settled_at table part) (known_at table h part)
+known-gate chosen table (gate.Ite condition a b) h below =
+    known-ite (settled_at table condition) (settled_at table a) (settled_at table b) (known_at table h condition) (known_at table h a) (known_at table h b)
 
 known_from : (chosen : List Bool) (so_far : List (Option Bool)) (gates : List Gate) → AllByRecursion IsKnown so_far → AllByRecursion (IsInputBelow (length chosen)) gates → AllByRecursion IsKnown (fold (step chosen) so_far gates)
 known_from chosen so_far [] h below = h
@@ -266,6 +319,7 @@ below_next m n (gate.Input number) e h = omega arith
 below_next m n (gate.And parts) e h = tt
 below_next m n (gate.Or parts) e h = tt
 below_next m n (gate.Not part) e h = tt
+below_next m n (gate.Ite condition a b) e h = tt
 
 inputs_below : (gates : List Gate) → IsCircuit gates → AllByRecursion (IsInputBelow (input_count gates)) gates
 inputs_below gates c =

@@ -1,15 +1,15 @@
 -- What a search below a choice of the first inputs finds. The search is stated by it, and no public call.
-use Rattle.std.specs.Prelude.{◌≡◌, ℕ, ◌<◌, Bool, List, ◌++◌, length, MatchBool}
+use Rattle.std.specs.Prelude.{◌≡◌, ℕ, ◌<◌, Bool, List, [], ◌++◌, length, MatchBool}
 use Rattle.circuit.specs.declared.gate.Gate.{Gate}
 use Rattle.circuit.specs.Value.{IsCircuit}
 use Rattle.circuit.specs.Support.{IsSupport}
 use Rattle.circuit.specs.Least.{LexLe, Satisfies}
 
--- a circuit, one of its nodes, and the inputs that can change that node
+-- a circuit, one of its nodes, and the inputs that can change that node where nothing is chosen
 pub record IsQuestion (gates : List Gate) (root : ℕ) (needed : List Bool) : Type 0 where
   pub circuit : IsCircuit gates
   pub within : root < length gates
-  pub support : IsSupport gates root needed
+  pub support : IsSupport gates root [] needed
 
 -- among the inputs that begin with the choice, the least that make the root true
 pub record IsLeastAfter (gates : List Gate) (root : ℕ) (chosen inputs : List Bool) : Type 0 where

@@ -33,12 +33,21 @@ abbrev pub settled_any : (ℕ → Option Bool) → List ℕ → Option Bool
 settled_any node [] = Some false
 settled_any node (part ∷ parts) = settled_or (node part) (settled_any node parts)
 
+-- the part that the condition chooses; where it is not settled, what both parts agree on
+abbrev pub settled_ite : Option Bool → Option Bool → Option Bool → Option Bool
+settled_ite (Some true) a b = a
+settled_ite (Some false) a b = b
+settled_ite None (Some true) (Some true) = Some true
+settled_ite None (Some false) (Some false) = Some false
+settled_ite None a b = None
+
 -- what is settled of a gate, given the first inputs and what is settled of the nodes before it
 abbrev pub settled_value : List Bool → List (Option Bool) → Gate → Option Bool
 settled_value chosen table (gate.Input place) = slice_get chosen place
 settled_value chosen table (gate.And parts) = settled_all (settled_at table) parts
 settled_value chosen table (gate.Or parts) = settled_any (settled_at table) parts
 settled_value chosen table (gate.Not part) = option_map not (settled_at table part)
+settled_value chosen table (gate.Ite condition a b) = settled_ite (settled_at table condition) (settled_at table a) (settled_at table b)
 
 -- what is settled of all nodes, in order
 unfoldable pub settled : List Gate → List Bool → List (Option Bool)

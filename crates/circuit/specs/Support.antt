@@ -1,9 +1,10 @@
 -- The nodes and inputs from which a node is made. The search is stated by it, and no public call.
-use Rattle.std.specs.Prelude.{◌≡◌, ℕ, ◌<◌, Bool, true, List, length, fold, slice_set, slice_index_or}
+use Rattle.std.specs.Prelude.{◌≡◌, ℕ, ◌<◌, Bool, true, Option, None, List, ◌++◌, length, fold, slice_set, slice_index_or}
 use Rattle.std.specs.List.{AllByRecursion}
 use Rattle.circuit.specs.declared.gate.Gate.{Gate}
 use Rattle.circuit.specs.declared.gate.Gate.TheVariants as gate
 use Rattle.circuit.specs.Value.{value, value_at, parts_of, input_count}
+use Rattle.circuit.specs.Settled.{settled, settled_at}
 
 -- these places marked too
 abbrev pub with_marks : List Bool → List ℕ → List Bool
@@ -13,11 +14,11 @@ with_marks marked places = fold (λ so_far place. slice_set so_far place true) m
 abbrev pub IsClosedAt : List Gate → List Bool → ℕ → Type 0
 IsClosedAt gates marked place = (g : Gate) → value_at marked place ≡ true → AllByRecursion (λ part. value_at marked part ≡ true) (parts_of (slice_index_or gates place g))
 
--- marks of the root and of all from which it is made
-pub record IsCone (gates : List Gate) (root : ℕ) (marked : List Bool) : Type 0 where
+-- marks of the root and of all from which it is made; what is settled need not be looked behind
+pub record IsCone (gates : List Gate) (root : ℕ) (table : List (Option Bool)) (marked : List Bool) : Type 0 where
   pub count : length marked ≡ length gates
   pub start : value_at marked root ≡ true
-  pub closed : (place : ℕ) → place < length gates → IsClosedAt gates marked place
+  pub closed : (place : ℕ) → place < length gates → settled_at table place ≡ None → IsClosedAt gates marked place
 
 -- an input gate that is marked has its input marked
 abbrev pub IsInputNeeded : List Bool → Gate → Type 0
@@ -31,7 +32,11 @@ AreInputsNeeded gates marked needed = (place : ℕ) (g : Gate) → place < lengt
 abbrev pub AgreeOn : List Bool → List Bool → List Bool → Type 0
 AgreeOn needed xs ys = (number : ℕ) → value_at needed number ≡ true → value_at xs number ≡ value_at ys number
 
--- one mark for each input, and no input without a mark changes the root
-pub record IsSupport (gates : List Gate) (root : ℕ) (needed : List Bool) : Type 0 where
+-- one mark for each input; where the first inputs are as chosen, no input without a mark changes the root
+pub record IsSupport (gates : List Gate) (root : ℕ) (chosen needed : List Bool) : Type 0 where
   pub count : length needed ≡ input_count gates
-  pub enough : (xs ys : List Bool) → AgreeOn needed xs ys → value gates xs root ≡ value gates ys root
+  pub enough : (xs ys : List Bool) → AgreeOn needed (chosen ++ xs) (chosen ++ ys) → value gates (chosen ++ xs) root ≡ value gates (chosen ++ ys) root
+
+-- such marks, for each choice that settles what the table has
+abbrev pub IsSupportBy : List Gate → ℕ → List (Option Bool) → List Bool → Type 0
+IsSupportBy gates root table needed = (chosen : List Bool) → table ≡ settled gates chosen → IsSupport gates root chosen needed

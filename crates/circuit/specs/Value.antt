@@ -1,5 +1,5 @@
 -- What the nodes of a circuit are worth.
-use Rattle.std.specs.Prelude.{◌≡◌, ℕ, ◌<◌, ◌≤◌, Bool, true, false, not, List, [], ◌∷◌, ◌++◌, length, take, fold, count_by, slice_index_or}
+use Rattle.std.specs.Prelude.{◌≡◌, ℕ, ◌<◌, ◌≤◌, Bool, true, false, not, List, [], ◌∷◌, ◌++◌, length, take, fold, count_by, slice_index_or, if◌then◌else◌}
 use Rattle.std.specs.List.{list_any, list_all, AllByRecursion}
 use Rattle.circuit.specs.declared.gate.Gate.{Gate}
 use Rattle.circuit.specs.declared.gate.Gate.TheVariants as gate
@@ -14,6 +14,7 @@ gate_value inputs values (gate.Input place) = value_at inputs place
 gate_value inputs values (gate.And parts) = list_all (value_at values) parts
 gate_value inputs values (gate.Or parts) = list_any (value_at values) parts
 gate_value inputs values (gate.Not part) = not (value_at values part)
+gate_value inputs values (gate.Ite condition a b) = if value_at values condition then value_at values a else value_at values b
 
 -- the values of all nodes, in order
 unfoldable pub values : List Gate → List Bool → List Bool
@@ -40,6 +41,7 @@ parts_of (gate.Input place) = []
 parts_of (gate.And parts) = parts
 parts_of (gate.Or parts) = parts
 parts_of (gate.Not part) = part ∷ []
+parts_of (gate.Ite condition a b) = condition ∷ a ∷ b ∷ []
 
 -- if the gate is an input, then it is the one after this many
 abbrev pub IsNumbered : ℕ → Gate → Type 0
@@ -47,6 +49,7 @@ IsNumbered count (gate.Input place) = place ≡ count
 IsNumbered count (gate.And parts) = Unit {0}
 IsNumbered count (gate.Or parts) = Unit {0}
 IsNumbered count (gate.Not part) = Unit {0}
+IsNumbered count (gate.Ite condition a b) = Unit {0}
 
 -- a gate that may stand right after these
 pub record IsNext (before : List Gate) (g : Gate) : Type 0 where

@@ -1,14 +1,16 @@
-ghost use Rattle.std.specs.Prelude.{◌≡◌, ◌≤◌, ◌<◌, ◌+◌, ℕ, Bool, false, List, [], not, map, length, IfOk, OnOk, OnErr};
+ghost use Rattle.std.specs.Prelude.{◌≡◌, ◌≤◌, ◌<◌, ◌+◌, ◌*◌, ◌↔◌, ◌&&◌, ◌==◌, nat_le, ℕ, Bool, true, false, List, [], ◌∷◌, not, if◌then◌else◌, map, length, IfOk, OnOk, OnErr};
 ghost use Rattle.std.specs.List.{list_any, list_all};
 ghost use Rattle.circuit.specs.declared.gate.Gate.{Gate};
 ghost use Rattle.circuit.specs.declared.gate.Gate.TheVariants as gate;
 ghost use Rattle.circuit.specs.Value.{AreNodes, Extends, IsNext, IsCircuit, values, value as node_value, value_at, gate_value, is_input, input_count};
 ghost use Rattle.circuit.specs.Number.{number, agrees};
-ghost use Rattle.circuit.specs.Gates.{with_gate, with_input, with_masked, masked_gates, fixed_nodes};
+ghost use Rattle.circuit.specs.Gates.{with_gate, with_input, with_masked, masked_gates, fixed_nodes, with_range, range_gates, with_equal, equal_gates};
 
 use crate::NoMemory;
+use crate::equal::equal_gates;
 use crate::gate::{Gate, Node, Parts};
 use crate::masked::masked_gates;
+use crate::range::range_gates;
 use std::alloc::Global;
 use std::marker::Model;
 
@@ -100,6 +102,19 @@ impl Circuit {
         self.push(Gate::Not(part))
     }
 
+    /// Adds a node that is worth `a` where the condition is true, and `b` where it is false.
+    #[tactic(auto, unfolding(crate::specs::Value::value))]
+    pub fn ite(&mut self, condition: Node, a: Node, b: Node) -> Result<Node, NoMemory>
+        requires { AreNodes self.old (condition ∷ a ∷ b ∷ []) }
+        ensures node { IfOk result (λ node. node ≡ length self.old) }
+        ensures circuit { OnOk result (self.new ≡ with_gate self.old (gate.Ite condition a b)) }
+        ensures value { IfOk result (λ node. (inputs : List Bool) → node_value self.new inputs node ≡ (if node_value self.old inputs condition then node_value self.old inputs a else node_value self.old inputs b)) }
+        ensures older { Extends self.old self.new }
+        ensures err { OnErr result (self.new ≡ self.old) }
+    {
+        self.push(Gate::Ite(condition, a, b))
+    }
+
     /// Adds a node that is true where the number of the bits agrees with the value on each bit that is 0 in the
     /// wildcard. The bits stand highest first, and there are at most 128.
     pub fn masked(&mut self, bits: &[Node], value: u128, wildcard: u128) -> Result<Node, NoMemory>
@@ -112,6 +127,45 @@ impl Circuit {
         ensures err { OnErr result (self.new ≡ self.old) }
     {
         let mut gates = masked_gates(self.alloc, self.gates.len(), bits, value, wildcard)?;
+        self.gates.append(&mut gates)?;
+        Ok(Node::at(self.gates.len() - 1))
+    }
+
+    /// Adds a node that is true where the number of the bits is from `lo` to `hi`, both included. The bits stand highest
+    /// first, and there are at most 128. An end above all numbers of the bits is allowed, and so are ends the wrong way
+    /// round, between which there is no number.
+    pub fn range(&mut self, bits: &[Node], lo: u128, hi: u128) -> Result<Node, NoMemory>
+        requires nodes { AreNodes self.old bits.now }
+        requires few { length bits.now ≤ 128 }
+        ensures node { IfOk result (λ node. node ≡ length self.old + 2 * length bits.now + 5) }
+        ensures last { IfOk result (λ node. length self.new ≡ node + 1) }
+        ensures inputs { OnOk result (input_count self.new ≡ input_count self.old) }
+        ensures circuit { OnOk result (self.new ≡ with_range self.old bits.now lo hi) }
+        ensures value { IfOk result (λ node. (inputs : List Bool) → node_value self.new inputs node ≡ (nat_le lo (number (map (node_value self.old inputs) bits.now)) && nat_le (number (map (node_value self.old inputs) bits.now)) hi)) }
+        ensures older { Extends self.old self.new }
+        ensures err { OnErr result (self.new ≡ self.old) }
+    {
+        let mut gates = range_gates(self.alloc, self.gates.len(), bits, lo, hi)?;
+        self.gates.append(&mut gates)?;
+        Ok(Node::at(self.gates.len() - 1))
+    }
+
+    /// Adds a node that is true where the two lists, which are of one length, have the same value at each place; so
+    /// they stand for the same number.
+    pub fn equal(&mut self, a: &[Node], b: &[Node]) -> Result<Node, NoMemory>
+        requires first { AreNodes self.old a.now }
+        requires second { AreNodes self.old b.now }
+        requires same { length a.now ≡ length b.now }
+        ensures node { IfOk result (λ node. node ≡ length self.old + 2 * length a.now) }
+        ensures last { IfOk result (λ node. length self.new ≡ node + 1) }
+        ensures inputs { OnOk result (input_count self.new ≡ input_count self.old) }
+        ensures circuit { OnOk result (self.new ≡ with_equal self.old a.now b.now) }
+        ensures value { IfOk result (λ node. (inputs : List Bool) → node_value self.new inputs node ≡ (number (map (node_value self.old inputs) a.now) == number (map (node_value self.old inputs) b.now))) }
+        ensures same { IfOk result (λ node. (inputs : List Bool) → (node_value self.new inputs node ≡ true) ↔ (map (node_value self.old inputs) a.now ≡ map (node_value self.old inputs) b.now)) }
+        ensures older { Extends self.old self.new }
+        ensures err { OnErr result (self.new ≡ self.old) }
+    {
+        let mut gates = equal_gates(self.alloc, self.gates.len(), a, b)?;
         self.gates.append(&mut gates)?;
         Ok(Node::at(self.gates.len() - 1))
     }

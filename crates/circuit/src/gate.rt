@@ -70,4 +70,6 @@ pub enum Gate {
     /// True where one of these is; false where there are none.
     Or(Parts),
     Not(Node),
+    /// If then else: worth the second node where the first is true, and the third where it is false.
+    Ite(Node, Node, Node),
 }

@@ -7,8 +7,10 @@
 #![tactic(auto)]
 
 mod circuit;
+mod equal;
 mod gate;
 mod masked;
+mod range;
 mod search;
 mod settled;
 mod support;

@@ -19,16 +19,16 @@ pub fn least(alloc: Global, circuit: &Circuit, root: Node) -> Result<Option<Vec<
     ensures none { IfOk result (λ answer. IfNone answer ((inputs : List Bool) → Satisfies circuit.now root inputs → ⊥)) }
 {
     let gates = circuit.gates();
-    let support = support(alloc, gates, root.place())?;
+    let mut inputs = Vec::new(alloc);
+    let unsettled = vec![in alloc; None; gates.len()]?;
+    let table = settle(alloc, gates, unsettled.as_slice(), inputs.as_slice())?;
+    let support = support(alloc, gates, root.place(), table.as_slice())?;
     let search = Search {
         alloc,
         gates,
         root: root.place(),
         support: support.as_slice(),
     };
-    let mut inputs = Vec::new(alloc);
-    let unsettled = vec![in alloc; None; gates.len()]?;
-    let table = settle(alloc, gates, unsettled.as_slice(), inputs.as_slice())?;
     if search.decide(table.as_slice(), &mut inputs)? {
         Ok(Some(inputs))
     } else {
@@ -42,7 +42,7 @@ struct Search<'a> {
     alloc: Global,
     gates: &'a [Gate],
     root: usize,
-    /// For each input, whether it can change the root.
+    /// For each input, whether it can change the root where nothing is chosen.
     support: &'a [bool],
 }
 
@@ -76,7 +76,12 @@ impl Search<'_> {
         if self.choose(table, chosen, false)? {
             return Ok(true);
         }
-        if !self.support[chosen.len()] {
+        let number = chosen.len();
+        if !self.support[number] {
+            return Ok(false);
+        }
+        let support = support(self.alloc, self.gates, self.root, table)?;
+        if !support[number] {
             return Ok(false);
         }
         self.choose(table, chosen, true)

@@ -1,7 +1,7 @@
 ghost use Rattle.std.specs.Prelude.{◌≡◌, ◌<◌, ℕ, length, All, IfOk};
 ghost use Rattle.std.specs.List.{AllByRecursion, AllZip};
 ghost use Rattle.circuit.specs.Value.{parts_of, IsCircuit};
-ghost use Rattle.circuit.specs.Settled.{settled_at, settled_all, settled_any, settled_value, settled, StaysSettled};
+ghost use Rattle.circuit.specs.Settled.{settled_at, settled_all, settled_any, settled_ite, settled_value, settled, StaysSettled};
 
 use crate::NoMemory;
 use crate::gate::{Gate, Node};
@@ -39,6 +39,24 @@ fn settle_gate(gate: &Gate, table: &[Option<bool>], chosen: &[bool]) -> Option<b
         Gate::And(parts) => settle_all(parts.nodes(), table),
         Gate::Or(parts) => settle_any(parts.nodes(), table),
         Gate::Not(part) => table[part.place()].map(|value| !value),
+        Gate::Ite(condition, a, b) => settle_ite(
+            table[condition.place()],
+            table[a.place()],
+            table[b.place()],
+        ),
+    }
+}
+
+/// The part that the condition chooses; where it is not settled, what both parts agree on.
+fn settle_ite(condition: Option<bool>, a: Option<bool>, b: Option<bool>) -> Option<bool>
+    ensures { result ≡ settled_ite condition a b }
+{
+    match (condition, a, b) {
+        (Some(true), _, _) => a,
+        (Some(false), _, _) => b,
+        (None, Some(true), Some(true)) => Some(true),
+        (None, Some(false), Some(false)) => Some(false),
+        (None, _, _) => None,
     }
 }
 

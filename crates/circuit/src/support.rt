@@ -1,32 +1,44 @@
 ghost use Rattle.std.specs.Prelude.{◌≡◌, ◌<◌, ℕ, length, All, IfOk};
 ghost use Rattle.std.specs.List.{AllByRecursion};
 ghost use Rattle.circuit.specs.Value.{parts_of, input_count, IsCircuit};
-ghost use Rattle.circuit.specs.Support.{with_marks, IsCone, AreInputsNeeded, IsSupport};
+ghost use Rattle.circuit.specs.Support.{with_marks, IsCone, AreInputsNeeded, IsSupportBy};
 
 use crate::NoMemory;
 use crate::gate::{Gate, Node};
 use std::alloc::Global;
 
-/// For each input, whether the root is made from it.
-pub(crate) fn support(alloc: Global, gates: &[Gate], root: usize) -> Result<Vec<bool>, NoMemory>
+/// For each input, whether the root is made from it, not looking behind the nodes that the table has settled.
+pub(crate) fn support(
+    alloc: Global,
+    gates: &[Gate],
+    root: usize,
+    table: &[Option<bool>],
+) -> Result<Vec<bool>, NoMemory>
     requires circuit { IsCircuit gates.now }
     requires root { root < length gates.now }
-    ensures { IfOk result (λ needed. IsSupport gates.now root needed.items) }
+    requires count { length table.now ≡ length gates.now }
+    ensures { IfOk result (λ needed. IsSupportBy gates.now root table.now needed.items) }
 {
-    let marked = cone(alloc, gates, root)?;
+    let marked = cone(alloc, gates, root, table)?;
     needed_inputs(alloc, gates, marked.as_slice())
 }
 
-/// Marks the root and the nodes from which it is made.
-fn cone(alloc: Global, gates: &[Gate], root: usize) -> Result<Vec<bool>, NoMemory>
+/// Marks the root and the nodes from which it is made, but not those that are only behind a settled one.
+fn cone(
+    alloc: Global,
+    gates: &[Gate],
+    root: usize,
+    table: &[Option<bool>],
+) -> Result<Vec<bool>, NoMemory>
     requires circuit { IsCircuit gates.now }
     requires root { root < length gates.now }
-    ensures { IfOk result (λ marked. IsCone gates.now root marked.items) }
+    requires count { length table.now ≡ length gates.now }
+    ensures { IfOk result (λ marked. IsCone gates.now root table.now marked.items) }
 {
     let mut marked = vec![in alloc; false; gates.len()]?;
     marked[root] = true;
     for place in (0..gates.len()).rev() {
-        if marked[place] {
+        if marked[place] && table[place].is_none() {
             mark_parts(&gates[place], marked.as_mut_slice());
         }
     }
@@ -42,6 +54,11 @@ fn mark_parts(gate: &Gate, marked: &mut [bool])
         Gate::Input(_) => {}
         Gate::And(parts) | Gate::Or(parts) => mark_all(parts.nodes(), marked),
         Gate::Not(part) => marked[part.place()] = true,
+        Gate::Ite(condition, a, b) => {
+            marked[condition.place()] = true;
+            marked[a.place()] = true;
+            marked[b.place()] = true;
+        }
     }
 }
 

@@ -1,4 +1,14 @@
 pub mod Matching
 pub mod Decision
-pub mod Standard
+pub mod Phrases
+pub mod Grammar
 pub mod List
+pub mod Following
+pub mod Refusal
+pub mod Reading
+pub mod Stops
+pub mod Parts
+pub mod Faults
+pub mod Adding
+pub mod Block
+pub mod Spelling

@@ -1,8 +1,9 @@
 -- Access lists, and how they grow.
-use Rattle.std.specs.Prelude.{◌≡◌, ℕ, ◌+◌, ◌-◌, ◌*◌, ◌≤◌, ◌^◌, max, Bool, false, List, [], ◌∷◌, ◌++◌, fold, length, slice_get, Option, Some, None}
+use Rattle.std.specs.Prelude.{ℕ, ◌+◌, ◌<◌, ◌≤◌, ◌==◌, max, Bool, false, nat_lt, List, [], ◌∷◌, ◌++◌, fold, length}
+use Rattle.std.specs.List.{filter, list_any, AllByRecursion}
 use Rattle.ios_acl.specs.declared.entry.Entry.{Entry}
-use Rattle.ios_acl.specs.declared.entry.Ports.TheVariants as ports
-use Rattle.ios_acl.specs.declared.standard.SourceRule.{SourceRule}
+use Rattle.ios_acl.specs.Phrases.{Words}
+use Rattle.ios_acl.specs.Grammar.{IsEntry}
 
 -- a list: its name, whether it is an extended one, and its entries in the order of their numbers
 pub record AccessList : Type 0 where
@@ -14,37 +15,40 @@ pub record AccessList : Type 0 where
 abbrev pub greatest_number : List Entry → ℕ
 greatest_number entries = fold (λ greatest entry. max greatest entry.number) 0 entries
 
-abbrev pub number_of : Option Entry → ℕ
-number_of None = 0
-number_of (Some entry) = entry.number
-
--- the number of the last entry, and 0 where there is none
-abbrev pub last_number : List Entry → ℕ
-last_number entries = number_of (slice_get entries (length entries - 1))
-
 -- the number of an entry that is written without one
 abbrev pub next_number : List Entry → ℕ
 next_number entries = greatest_number entries + 10
 
--- an entry of a standard list looks at the source address alone
-abbrev pub standard_entry : ℕ → SourceRule → Entry
-standard_entry number rule = record {
-  number = number;
-  verdict = rule.verdict;
-  proto = None;
-  src = (rule.address, rule.wildcard);
-  dst = (0, 2 ^ 32 - 1);
-  sport = ports.Any;
-  dport = ports.Any;
-  icmp = None;
-  established = false;
+abbrev pub has_number : List Entry → ℕ → Bool
+has_number entries number = list_any (λ entry. entry.number == number) entries
+
+-- the list with one more entry, behind those of smaller numbers and before those of greater ones
+abbrev pub with_entry : AccessList → Entry → AccessList
+with_entry list entry = record list {
+  entries = filter (λ e. nat_lt e.number entry.number) list.entries ++ entry ∷ filter (λ e. nat_lt entry.number e.number) list.entries;
 }
 
--- the list with one more entry at its end
-abbrev pub with_rule : AccessList → SourceRule → AccessList
-with_rule list rule = record list { entries = list.entries ++ standard_entry (next_number list.entries) rule ∷ [] }
+-- the greatest number that an entry may have
+abbrev pub greatest_sequence : ℕ
+greatest_sequence = 2147483647
 
--- the last entry has the greatest number, and this is at most ten for each entry
-pub record IsNumbered (entries : List Entry) : Type 0 where
-  pub last : last_number entries ≡ greatest_number entries
-  pub small : greatest_number entries ≤ 10 * length entries
+abbrev pub most_entries : ℕ
+most_entries = 5000
+
+-- some words spell the entry, and its number may stand before them
+pub record IsWritable (extended : Bool) (entry : Entry) : Type 0 where
+  pub words : Words
+  pub spelled : IsEntry extended false entry words
+  pub some : 0 < entry.number
+  pub small : entry.number ≤ greatest_sequence
+
+-- the entries stand in the order of their numbers, and no two have one number
+abbrev pub IsRising : List Entry → Type 0
+IsRising [] = Unit {0}
+IsRising (entry ∷ entries) = AllByRecursion (λ (other : Entry). entry.number < other.number) entries × IsRising entries
+
+-- a list that can be read
+pub record IsAccessList (list : AccessList) : Type 0 where
+  pub rising : IsRising list.entries
+  pub few : length list.entries ≤ most_entries
+  pub writable : AllByRecursion (IsWritable list.extended) list.entries

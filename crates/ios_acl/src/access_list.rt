@@ -1,21 +1,20 @@
-ghost use Rattle.std.specs.Prelude.{◌≡◌, ◌<◌, [], length, IsTrue, ◌↔◌, false, OnOk, OnErr, IfErr, find};
-ghost use Rattle.ios_acl.specs.Decision.{decision, first_match, verdict_by};
-ghost use Rattle.ios_acl.specs.List.{IsNumbered, next_number};
-ghost use Rattle.ios_acl.specs.Standard.{Spells};
+ghost use Rattle.std.specs.Prelude.{◌≡◌, ◌<◌, ◌↔◌, [], length, IsTrue, OnOk, OnErr, IfErr};
+ghost use Rattle.ios_acl.specs.Decision.{decision, first_match};
+ghost use Rattle.ios_acl.specs.Faults.{IsFault};
+ghost use Rattle.ios_acl.specs.List.{IsRising};
+ghost use Rattle.ios_acl.specs.Reading.{Reads};
 
 use crate::entry::{Entry, Verdict};
+use crate::fault::{AclFault, fault_of};
+use crate::numbers::{is_taken, number_of, opened, place_of};
 use crate::packet::Packet;
-use crate::standard::{SourceRule, standard_rule};
+use crate::spelled::sentence;
 use ios_lex::{IosReason, Word};
 use std::alloc::Global;
 use std::marker::Model;
 
-/// Why a line is not read into a list.
-#[derive(Debug, Drop)]
-pub enum AclFault {
-    Refused(IosReason),
-    NoMemory,
-}
+/// How many entries a list may have.
+const MOST_ENTRIES: usize = 5000;
 
 /// An access list.
 #[derive(Drop)]
@@ -26,17 +25,21 @@ pub struct Acl {
 }
 
 impl Model for Acl {
-    ghost use Rattle.ios_acl.specs.List.{AccessList, IsNumbered};
+    ghost use Rattle.ios_acl.specs.List.{AccessList, IsAccessList};
 
     ghost Value = { AccessList };
 
     ghost view = { λ a. record { name = a.name; extended = a.extended; entries = a.entries.items } };
 
-    ghost invariant = { λ a. IsNumbered a.entries.items };
+    ghost invariant = { λ a. IsAccessList (record { name = a.name; extended = a.extended; entries = a.entries.items }) };
 }
 
 impl Acl {
-    ghost use Rattle.ios_acl.specs.List.{AccessList, with_rule};
+    ghost use Rattle.std.specs.Prelude.{◌≤◌, false, IfSome};
+    ghost use Rattle.ios_acl.specs.Adding.{Adds, CannotAdd};
+    ghost use Rattle.ios_acl.specs.Grammar.{IsEntry};
+    ghost use Rattle.ios_acl.specs.List.{has_number, greatest_sequence, IsAccessList};
+    ghost use Rattle.ios_acl.specs.Phrases.{Words};
 
     /// A list without entries, standard or extended.
     pub fn new(alloc: Global, name: Word, extended: bool) -> Acl
@@ -55,9 +58,18 @@ impl Acl {
         &self.name
     }
 
+    /// Whether it is an extended list, and not a standard one.
+    pub fn is_extended(&self) -> bool
+        ensures { result ≡ self.now.extended }
+    {
+        self.extended
+    }
+
     /// The entries, in the order of their numbers.
     pub fn entries(&self) -> &[Entry]
-        ensures { result.now ≡ self.now.entries }
+        ensures entries { result.now ≡ self.now.entries }
+        ensures order { IsRising result.now }
+        ensures whole { IsAccessList self.now }
     {
         self.entries.as_slice()
     }
@@ -69,20 +81,49 @@ impl Acl {
         !self.entries.is_empty()
     }
 
-    /// Adds the entry that the words after `access-list N` spell. It gets the greatest number so far plus 10.
-    pub fn read_line(&mut self, words: &[Word]) -> Result<(), AclFault>
-        requires standard { self.old.extended ≡ false }
-        requires room { length self.old.entries < 5000 }
-        requires form { (rule : SourceRule) × Spells words.now rule }
-        ensures ok { OnOk result ((rule : SourceRule) × Spells words.now rule × (self.new ≡ with_rule self.old rule)) }
-        ensures err { OnErr result (self.new ≡ self.old) }
-        ensures cause { IfErr result (λ fault. fault ≡ AclFault.NoMemory) }
+    /// Adds the entry that the words of a line of a list block spell, or those behind `access-list N`. A remark adds
+    /// none. An entry without a number gets the greatest so far plus 10.
+    pub fn read_line(&mut self, alloc: Global, words: &[Word]) -> Result<(), AclFault>
+        ensures read { OnOk result (Reads self.old words.now self.new) }
+        ensures unchanged { OnErr result (self.new ≡ self.old) }
+        ensures refused { IfErr result (IsFault self.old words.now) }
     {
-        let Some(rule) = standard_rule(words) else {
-            unreachable!()
+        let (number, rest) = opened(words);
+        if is_taken(self.entries.as_slice(), number, rest) {
+            return Err(AclFault::Refused(IosReason::DuplicateSequence));
+        }
+        let line = match sentence(rest, self.extended) {
+            Ok(line) => line,
+            Err(stop) => return Err(fault_of(alloc, number, rest, stop)),
         };
-        let entry = rule.entry(number_after(self.entries.as_slice()));
-        if self.entries.push(entry).is_err() {
+        match line {
+            Some(entry) => self.add(entry, number),
+            None => Ok(()),
+        }
+    }
+
+    /// Adds an entry under this number, or under the next one.
+    fn add(&mut self, entry: Entry, number: Option<u32>) -> Result<(), AclFault>
+        requires spelled { (words : Words) × IsEntry self.old.extended false entry words }
+        requires some { IfSome number (λ n. 0 < n) }
+        requires small { IfSome number (λ n. n ≤ greatest_sequence) }
+        requires free { IfSome number (λ n. has_number self.old.entries n ≡ false) }
+        ensures added { OnOk result (Adds self.old entry number self.new) }
+        ensures unchanged { OnErr result (self.new ≡ self.old) }
+        ensures refused { IfErr result (CannotAdd self.old number) }
+    {
+        let Some(number) = number_of(self.entries.as_slice(), number) else {
+            return Err(AclFault::Refused(IosReason::BadNumber));
+        };
+        if self.entries.len() >= MOST_ENTRIES {
+            return Err(AclFault::Refused(IosReason::TooMany));
+        }
+        let place = place_of(self.entries.as_slice(), number);
+        if self
+            .entries
+            .insert(place, Entry { number, ..entry })
+            .is_err()
+        {
             return Err(AclFault::NoMemory);
         }
         Ok(())
@@ -96,18 +137,6 @@ impl Acl {
             Some(entry) => (entry.verdict, Some(entry.number)),
             None => (Verdict::Deny, None),
         }
-    }
-}
-
-/// The number of an entry that follows these without one of its own.
-fn number_after(entries: &[Entry]) -> u32
-    requires numbered { IsNumbered entries.now }
-    requires room { length entries.now < 5000 }
-    ensures { result ≡ next_number entries.now }
-{
-    match entries.last() {
-        Some(entry) => entry.number + 10,
-        None => 10,
     }
 }
 

@@ -1,21 +1,31 @@
-//! Cisco IOS access lists: how a line is read into an entry, and what a list decides.
+//! Cisco IOS access lists: how a line is read into an entry, what a list decides, and how it is written.
 //!
-//! `Acl::decide` says for every packet what the first matching entry says, deny by default, and takes no memory.
-//! `Acl::read_line` adds the entry that the words of a line spell. So far lists are standard ones, whose entries
-//! look at the source address alone; the types are those of extended lists too.
-//! `margrave_cli` reads its configurations into such a list.
+//! `Acl::decide` says for every packet what the first matching entry in the order of their numbers says, deny by
+//! default, and takes no memory. `Acl::read_line` adds the entry that the words of a line spell, or says why none is
+//! added, and `write_acl` writes a list as words that are read as it.
+//! `margrave_cli` reads its configurations into such lists.
 #![tactic(auto)]
 
 mod access_list;
+mod endings;
 mod entry;
+mod fault;
+mod laws;
+mod numbers;
 mod packet;
-mod standard;
+mod places;
+mod port_tests;
+mod spelled;
+mod stop;
+mod written;
 
-pub use access_list::{Acl, AclFault};
+pub use access_list::Acl;
 pub use entry::{Entry, Ports, Verdict};
+pub use fault::AclFault;
+pub use laws::one_reading;
 pub use packet::Packet;
-pub use standard::{SourceRule, one_rule, standard_rule};
 pub use std::alloc::AllocError as NoMemory;
+pub use written::{is_block_name, write_acl};
 
 #[cfg(test)]
 mod tests;

@@ -1,6 +1,7 @@
 -- The words of a line, one part after the other.
-use Rattle.std.proofs.Common.{◌≡◌, ℕ, ◌<◌, ◌≤◌, ◌+◌, false, List, [], ◌∷◌, ◌++◌, length, take, drop, ap, sym, ◌∙◌, append_assoc, arith}
+use Rattle.std.proofs.Common.{◌≡◌, ℕ, ◌<◌, ◌≤◌, ◌+◌, false, List, [], ◌∷◌, ◌++◌, length, take, drop, refl, ap, sym, ◌∙◌, append_assoc, arith}
 use Rattle.std.specs.List.{All, filter, slice_split, position_or_len, before_first, after_first}
+use Rattle.std.proofs.lemmas.Bool.{ne_eqb}
 use Rattle.std.proofs.lemmas.List.Splits.{slice_split_none, slice_split_first}
 use Rattle.std.proofs.lemmas.List.Sums.{fails_before_first}
 use Rattle.std.proofs.lemmas.List.Elements.{filter-append}
@@ -24,3 +25,7 @@ words_last text end is within =
 pub words_more : (words new : List (List ℕ)) (line text part rest : List ℕ) → words ++ words_of text ≡ words_of line → words_of text ≡ filter is_some_text (part ∷ []) ++ words_of rest → new ≡ words ++ filter is_some_text (part ∷ []) → new ++ words_of rest ≡ words_of line
 words_more words new line text part rest so_far first is =
     rw is (append_assoc words (filter is_some_text (part ∷ [])) (words_of rest) ∙ sym (ap (λ more. words ++ more) first) ∙ so_far)
+
+-- a part with bytes is kept
+pub kept : (part : List ℕ) → 0 < length part → filter is_some_text (part ∷ []) ≡ part ∷ []
+kept part some = rw (ne_eqb (length part) 0 (λ same. omega (arith, same))) refl

@@ -10,7 +10,7 @@ use Rattle.std.proofs.lemmas.List.Sums.{passes_at_first, prefix_len_stops}
 use Rattle.ios_lex.specs.Words.{is_gap, is_some_text, words_of, from_next_word}
 use Rattle.ios_lex.specs.Banner.{Opens}
 use Rattle.ios_lex.specs.Lines.{is_indented}
-use Rattle.ios_lex.proofs.LineWords.{words_first, words_last}
+use Rattle.ios_lex.proofs.LineWords.{words_first, words_last, kept}
 
 words_of_gap : (x : ℕ) (xs : List ℕ) → is_gap x ≡ true → words_of (x ∷ xs) ≡ words_of xs
 words_of_gap x xs gap = ap (filter is_some_text) (slice_split-cons_yes is_gap x xs gap)
@@ -45,9 +45,6 @@ words_from line = ⊎_elim inside past (cases_lt (position_or_len is_gap line) (
         words_last line end refl over
         ∙ ap (λ (t : List ℕ). filter is_some_text (t ∷ []) ++ words_of []) (sym (take_all end line over))
         ∙ ap (λ (t : List ℕ). filter is_some_text (before_first is_gap line ∷ []) ++ words_of t) (sym none)
-
-kept : (word : List ℕ) → 0 < length word → filter is_some_text (word ∷ []) ≡ word ∷ []
-kept word some = rw (ne_eqb (length word) 0 (λ same. omega (arith, same))) refl
 
 -- a text that begins with no gap begins with a word
 some_first : (text : List ℕ) → 0 < length text → is_gap (get_or text 0 0) ≡ false → 0 < length (before_first is_gap text)

@@ -7,6 +7,7 @@ use Rattle.std.proofs.lemmas.List.Splits.{slice_split_none, slice_split_at, leng
 use Rattle.ios_lex.specs.Cut.{IsCut, IsFree}
 use Rattle.ios_lex.specs.Words.{is_some_text}
 use Rattle.ios_lex.specs.RawLines.{without_return, lines_of_parts, raw_lines}
+use Rattle.ios_lex.proofs.LineWords.{kept}
 
 all_differ : (byte : ℕ) (text : List ℕ) → IsFree byte text → All (λ b. (b == byte) ≡ false) text
 all_differ byte [] free = All-nil (λ (b : ℕ). (b == byte) ≡ false)
@@ -31,8 +32,4 @@ pub last_line : (text : List ℕ) → IsFree 10 text → raw_lines text ≡ filt
 last_line text free = ap lines_of_parts (slice_split_none (λ b. b == 10) text (all_differ 10 text free))
 
 pub last_line_some : (text : List ℕ) → IsFree 10 text → 0 < length text → raw_lines text ≡ text ∷ []
-last_line_some [] free some = absurd (omega arith)
-last_line_some (x ∷ xs) free some = last_line (x ∷ xs) free ∙ kept
-  where
-    kept : filter is_some_text ((x ∷ xs) ∷ []) ≡ (x ∷ xs) ∷ []
-    kept = rw (ne_eqb (length (x ∷ xs)) 0 (λ same. omega (arith, same))) refl
+last_line_some text free some = last_line text free ∙ kept text some

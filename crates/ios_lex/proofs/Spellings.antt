@@ -5,7 +5,7 @@ use Rattle.ios_lex.specs.Names.{protocols, tcp_ports, udp_ports, icmp_messages, 
 use Rattle.ios_lex.proofs.DecimalTexts.{decimal_is_one}
 use Rattle.ios_lex.proofs.NameTables.{begins_apart, IsNameTable, spelled_is_one}
 
-number_is_one : (most : ℕ) (word : List ℕ) (m n : ℕ) → IsNumber most word m → IsNumber most word n → m ≡ n
+pub number_is_one : (most : ℕ) (word : List ℕ) (m n : ℕ) → IsNumber most word m → IsNumber most word n → m ≡ n
 number_is_one most word m n first second = decimal_is_one 10 word m n first.decimal second.decimal
 
 pub protocol_names : IsNameTable protocols

@@ -88,10 +88,7 @@ fn add_part<'a>(
     if occurs(&text[len..], &text[..len]) {
         return Ok(Some((number + 1, others)));
     }
-    let Some((next, left)) = add_body(alloc, lines, number + 1, &text[..len], others)? else {
-        return Ok(None);
-    };
-    Ok(Some((next, left)))
+    add_body(alloc, lines, number + 1, &text[..len], others)
 }
 
 /// Adds the lines up to the first in which the delimiter occurs, and gives the next number and the bytes behind. None

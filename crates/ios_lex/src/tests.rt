@@ -116,3 +116,15 @@ fn masks_have_ones_and_then_zeros(rt: HostRuntime) {
         assert_eq!(rt; prefix_len(mask), want, "{mask:x}");
     }
 }
+
+#[test]
+fn words_stand_between_gaps(rt: HostRuntime) -> Result<(), Fail> {
+    let words = words_in(rt.alloc(), b" \tip  access-list\textended A ")?;
+    let wanted: [&str; 4] = ["ip", "access-list", "extended", "A"];
+    assert_eq!(rt; words.len(), 4);
+    for (word, want) in words.iter().zip(wanted) {
+        assert_eq!(rt; word.bytes(), want.as_bytes());
+    }
+    assert!(rt; words_in(rt.alloc(), b" \t ")?.is_empty());
+    Ok(())
+}

@@ -1,5 +1,5 @@
 -- What a sink has taken of a run's text.
-use Rattle.std.proofs.Common.{◌≡◌, ℕ, ◌≤◌, List, [], ◌++◌, Option, Some, None, refl, sym, ap, ◌∙◌, arith, append_assoc, append-nil}
+use Rattle.std.proofs.Common.{◌≡◌, ℕ, ◌≤◌, List, [], ◌++◌, Option, Some, None, refl, sym, ap, ◌∙◌, arith, append_assoc, append-nil, Result, Ok, Err, OnOk}
 use Rattle.mg_outside.specs.Faults.{Rose}
 use Rattle.mg_outside.specs.Taking.{Takes, TakesFront}
 use Rattle.mg_outside.specs.declared.sink.SinkFault.{SinkFault}
@@ -7,7 +7,7 @@ use Rattle.mg_outside.specs.declared.sink.SinkFault.TheVariants as sink
 use Rattle.margrave_cli.specs.declared.ended.Cause.{Cause}
 use Rattle.margrave_cli.specs.declared.ended.Cause.TheVariants as cause
 use Rattle.margrave_cli.specs.Run.{TakesWhole, TakesPart, nothing, front, After, IsWritten}
-use Rattle.margrave_cli.specs.Endings.{Says, cause_of}
+use Rattle.margrave_cli.specs.Endings.{Breaks, Says, cause_of}
 
 -- nothing was taken
 pub takes_nothing : (before : Option (List ℕ)) → Takes before before []
@@ -45,6 +45,11 @@ written_weaker P Q weaker before after cause.NoMemory written = part_weaker P Q 
 pub written_cut : (end : Cause) (text : List ℕ) (before after : Option (List ℕ)) (fault : SinkFault) → TakesFront before after text → IsWritten (Says end text) before after (cause_of fault)
 written_cut end text before after sink.Failed taken = front end text (refl, refl) taken
 written_cut end text before after sink.NoMemory taken = front end text (refl, refl) taken
+
+-- and so does one of a text behind which the run goes on
+pub broken_cut : (text : List ℕ) (before after : Option (List ℕ)) (fault : SinkFault) → TakesFront before after text → IsWritten (Breaks text) before after (cause_of fault)
+broken_cut text before after sink.Failed taken = front cause.WriteFault text (tt, refl) taken
+broken_cut text before after sink.NoMemory taken = front cause.NoMemory text (tt, refl) taken
 
 -- a front of a text is a front of a longer one
 pub front_of_longer : (before after : Option (List ℕ)) (text more : List ℕ) → TakesFront before after text → TakesFront before after (text ++ more)
@@ -95,3 +100,8 @@ first_cut run first before after sink.NoMemory taken end text is_run = front end
 -- a count that rose from a later one rose from an earlier one
 pub rose_from_earlier : (before middle now : ℕ) → before ≤ middle → Rose middle now → Rose before now
 rose_from_earlier before middle now earlier rose = omega arith
+
+-- two facts of a call that was done
+pub both_on_ok : {T E P Q R : Type 0} (r : Result T E) → (P → Q → R) → OnOk r P → OnOk r Q → OnOk r R
+both_on_ok (Ok x) step p q = step p q
+both_on_ok (Err e) step p q = tt

@@ -1,22 +1,27 @@
--- The ends of a run that write one line. No public call is stated by this.
-use Rattle.std.specs.Prelude.{◌≡◌, ℕ, List}
+-- The ends of a run that write one line, and of a run that breaks off. No public call is stated by this.
+use Rattle.std.specs.Prelude.{◌≡◌, ℕ, List, length, Option, Contains}
+use Rattle.std.specs.List.{AllByRecursion}
+use Rattle.mg_outside.specs.Taking.{Takes}
 use Rattle.mg_outside.specs.declared.files.FileFault.{FileFault}
 use Rattle.mg_outside.specs.declared.files.FileFault.TheVariants as fault
 use Rattle.mg_outside.specs.declared.sink.SinkFault.{SinkFault}
 use Rattle.mg_outside.specs.declared.sink.SinkFault.TheVariants as sink
+use Rattle.ios_config.specs.Request.{packet_fields}
 use Rattle.margrave_cli.specs.declared.ended.Cause.{Cause}
 use Rattle.margrave_cli.specs.declared.ended.Cause.TheVariants as cause
-use Rattle.margrave_cli.specs.declared.ended.Reason.{Reason}
 use Rattle.margrave_cli.specs.declared.ended.Reason.TheVariants as reason
-use Rattle.margrave_cli.specs.Text.{fault_line, refused_line}
+use Rattle.margrave_cli.specs.Run.{IsBreak}
+use Rattle.margrave_cli.specs.Statement.{Statement, WrittenTest, explore, decide}
+use Rattle.margrave_cli.specs.Steps.{State, Carries, Stops, IsRefusal}
+use Rattle.margrave_cli.specs.Text.{fault_line}
 
 -- this text and no other, with this cause
 abbrev pub Says : Cause → List ℕ → Cause → List ℕ → Type 0
 Says end text other words = (other ≡ end) × (words ≡ text)
 
--- a text is refused at this line of this file
-abbrev pub IsRefusal : List ℕ → ℕ → Reason → Cause → List ℕ → Type 0
-IsRefusal file line reason = Says (cause.Refused file line reason) (refused_line file line reason)
+-- the run breaks off with this text
+abbrev pub Breaks : List ℕ → Cause → List ℕ → Type 0
+Breaks text end words = IsBreak end × (words ≡ text)
 
 -- what a fault of a read makes the run end with; want of memory writes nothing
 abbrev pub IsFaultEnd : List ℕ → FileFault → Cause → List ℕ → Type 0
@@ -34,3 +39,24 @@ IsTold end = Unit {0}
 abbrev pub cause_of : SinkFault → Cause
 cause_of sink.Failed = cause.WriteFault
 cause_of sink.NoMemory = cause.NoMemory
+
+-- a statement was carried out, and the sink took what it writes
+pub record WritesStep (told : List ℕ → Option (List ℕ)) (state : State) (statement : Statement) (new : State) (before after : Option (List ℕ)) : Type 0 where
+  pub text : List ℕ
+  pub carries : Carries told state statement text new
+  pub taken : Takes before after text
+
+-- a run ends at a statement: it is refused, or it could be carried out and the run breaks off
+pub data IsStepEnd (script : List ℕ) (told : List ℕ → Option (List ℕ)) (rose : List ℕ → Type 0) (line : ℕ) (state : State) (statement : Statement) (end : Cause) (text : List ℕ) : Type 0 where
+  stopped : Stops script told rose line state end text statement → IsStepEnd script told rose line state statement end text
+  broken : (new : State) → Carries told state statement text new → IsBreak end → IsStepEnd script told rose line state statement end text
+
+-- the test is of a field of the packet that comes in
+abbrev pub IsOfPacket : WrittenTest → Type 0
+IsOfPacket test = Contains packet_fields test.field
+
+-- a statement that decides gives eight numbers, and the tests of one that explores are of the packet that comes in
+abbrev pub HasPacket : Statement → Type 0
+HasPacket (decide router list values) = length values ≡ 8
+HasPacket (explore router list verdict tests) = AllByRecursion IsOfPacket tests
+HasPacket other = Unit {0}

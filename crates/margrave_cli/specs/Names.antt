@@ -1,5 +1,5 @@
 -- Names and quoted texts of scripts.
-use Rattle.std.specs.Prelude.{◌≡◌, ◌≢◌, ℕ, Bool, true, false, not, ◌==◌, ◌&&◌, ◌||◌, nat_le, List, [], ◌∷◌, codes}
+use Rattle.std.specs.Prelude.{◌≡◌, ℕ, Bool, true, false, not, ◌==◌, ◌&&◌, ◌||◌, nat_le, List, [], ◌∷◌}
 use Rattle.std.specs.List.{list_any, list_all}
 use Rattle.std.specs.Str.{bytes_eq}
 use Rattle.margrave_cli.specs.declared.names.TheConstants.{KEYWORDS}
@@ -23,11 +23,15 @@ abbrev pub is_lettered : List ℕ → Bool
 is_lettered [] = false
 is_lettered (byte ∷ bytes) = is_letter byte && list_all is_word_byte bytes
 
--- a name is such a word and no keyword; the name `net` is that of the built-in vocabulary
-pub record IsRouterName (text : List ℕ) : Type 0 where
+-- a name is such a word and no keyword
+pub record IsName (text : List ℕ) : Type 0 where
   pub lettered : is_lettered text ≡ true
   pub no_keyword : is_keyword text ≡ false
-  pub not_net : text ≢ codes "net"
+
+-- a word begins with a letter, a digit or the underscore
+abbrev pub is_word : List ℕ → Bool
+is_word [] = false
+is_word (byte ∷ bytes) = (is_letter byte || is_digit byte || (byte == 95)) && list_all is_word_byte bytes
 
 -- what may stand between quotes: bytes from 32 to 126 but the double quote, 34
 abbrev pub is_quotable : ℕ → Bool

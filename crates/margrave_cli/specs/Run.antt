@@ -1,45 +1,43 @@
 -- A run: what it ends with, and what it writes, in the order of its steps.
-use Rattle.std.specs.Prelude.{◌≡◌, ◌≢◌, ℕ, ◌<◌, ◌≤◌, List, [], ◌++◌, length, Option, IfSome}
+use Rattle.std.specs.Prelude.{◌≡◌, ℕ, ◌+◌, ◌≤◌, List, [], ◌∷◌, ◌++◌, Option, None}
 use Rattle.mg_outside.specs.Faults.{Rose}
 use Rattle.mg_outside.specs.Reading.{Gives}
 use Rattle.mg_outside.specs.Taking.{Takes, TakesFront}
-use Rattle.ios_acl.specs.declared.entry.Entry.{Entry}
-use Rattle.ios_acl.specs.declared.standard.SourceRule.{SourceRule}
 use Rattle.margrave_cli.specs.declared.ended.Cause.{Cause}
 use Rattle.margrave_cli.specs.declared.ended.Cause.TheVariants as cause
-use Rattle.margrave_cli.specs.declared.ended.Reason.TheVariants as reason
+use Rattle.margrave_cli.specs.declared.ended.Reason.{Reason}
 use Rattle.margrave_cli.specs.Words.{IsForm}
 use Rattle.margrave_cli.specs.Script as script
-use Rattle.margrave_cli.specs.Script.{Question}
-use Rattle.margrave_cli.specs.Configuration as configuration
-use Rattle.margrave_cli.specs.Answer.{IsAnswer}
-use Rattle.margrave_cli.specs.Text.{usage, fault_line, refused_line, loaded_line}
+use Rattle.margrave_cli.specs.Statement.{Statement}
+use Rattle.margrave_cli.specs.Steps.{State, most_bytes, Carries, Stops, IsUnread, IsRefusal}
+use Rattle.margrave_cli.specs.Text.{usage}
 
--- the most bytes of a file that is read
-abbrev pub most_bytes : ℕ
-most_bytes = 4194304
+abbrev pub no_routers : State
+no_routers = record { library = []; question = None }
 
--- a file that is not read ends the run: its count of faults rose, or it is too long
-pub data IsUnread (file : List ℕ) (told : Option (List ℕ)) (rose : Type 0) (end : Cause) (text : List ℕ) : Type 0 where
-  fault : rose → end ≡ cause.ReadFault file → text ≡ fault_line file → IsUnread file told rose end text
-  too_long : (given : ℕ) → most_bytes < given → IfSome told (λ held. given ≤ length held) → end ≡ cause.Refused file 0 (reason.TooLong given) → text ≡ refused_line file 0 (reason.TooLong given) → IsUnread file told rose end text
+-- a run may break off with these, wherever it stands
+abbrev pub IsBreak : Cause → Type 0
+IsBreak cause.WriteFault = Unit {0}
+IsBreak cause.NoMemory = Unit {0}
+IsBreak end = ⊥
 
--- the run behind the loaded line, over the entries of the list of this number: the script has to name that list
-pub data IsAnswerRun (name : List ℕ) (question : Question) (list : ℕ) (entries : List Entry) (end : Cause) (text : List ℕ) : Type 0 where
-  other_list : list ≢ question.list → end ≡ cause.Refused name 2 reason.NotBuilt → text ≡ refused_line name 2 reason.NotBuilt → IsAnswerRun name question list entries end text
-  answered : list ≡ question.list → IsAnswer entries question text → end ≡ cause.Done → IsAnswerRun name question list entries end text
+-- the run of the statements from this line on, one after the other; the first that is refused ends it
+pub data AreCarriedOut (name : List ℕ) (told : List ℕ → Option (List ℕ)) (rose : List ℕ → Type 0) : ℕ → State → List Statement → Cause → List ℕ → Type 0 where
+  all : (line : ℕ) (state : State) → AreCarriedOut name told rose line state [] cause.Done []
+  next : (line : ℕ) (state new : State) (statement : Statement) (statements : List Statement) (end : Cause) (text rest : List ℕ)
+      → Carries told state statement text new → AreCarriedOut name told rose (line + 1) new statements end rest
+      → AreCarriedOut name told rose line state (statement ∷ statements) end (text ++ rest)
+  broken : (line : ℕ) (state : State) (statements : List Statement) (end : Cause) → IsBreak end → AreCarriedOut name told rose line state statements end []
+  stop : (line : ℕ) (state : State) (statement : Statement) (statements : List Statement) (end : Cause) (text : List ℕ)
+      → Stops name told rose line state end text statement → AreCarriedOut name told rose line state (statement ∷ statements) end text
 
--- the run from the question on; told and rose speak of each file by its name
-pub data IsQuestionRun (name : List ℕ) (question : Question) (told : List ℕ → Option (List ℕ)) (rose : List ℕ → Type 0) (end : Cause) (text : List ℕ) : Type 0 where
-  file_unread : IsUnread question.file (told question.file) (rose question.file) end text → IsQuestionRun name question told rose end text
-  file_refused : (bytes : List ℕ) (line : ℕ) → Gives (told question.file) most_bytes bytes → configuration.Refuses bytes line → end ≡ cause.Refused question.file line reason.NotBuilt → text ≡ refused_line question.file line reason.NotBuilt → IsQuestionRun name question told rose end text
-  loaded : (bytes : List ℕ) (list : ℕ) (rules : List SourceRule) (rest : List ℕ) → Gives (told question.file) most_bytes bytes → configuration.Reads bytes list rules → IsAnswerRun name question list (configuration.list_of list rules).entries end rest → text ≡ loaded_line question.name ++ rest → IsQuestionRun name question told rose end text
-
--- the run of the script of this name
+-- the run of the script of this name; told and rose speak of each file by its name
 pub data IsScriptRun (name : List ℕ) (told : List ℕ → Option (List ℕ)) (rose : List ℕ → Type 0) (end : Cause) (text : List ℕ) : Type 0 where
-  script_unread : IsUnread name (told name) (rose name) end text → IsScriptRun name told rose end text
-  script_refused : (bytes : List ℕ) (line : ℕ) → Gives (told name) most_bytes bytes → script.Refuses bytes line → end ≡ cause.Refused name line reason.NotBuilt → text ≡ refused_line name line reason.NotBuilt → IsScriptRun name told rose end text
-  asked : (bytes : List ℕ) (question : Question) → Gives (told name) most_bytes bytes → script.Reads bytes question → IsQuestionRun name question told rose end text → IsScriptRun name told rose end text
+  unread : IsUnread name (told name) (rose name) end text → IsScriptRun name told rose end text
+  refused : (bytes : List ℕ) (line : ℕ) (why : Reason) → Gives (told name) most_bytes bytes → script.Refuses bytes line why
+      → IsRefusal name line why end text → IsScriptRun name told rose end text
+  read : (bytes : List ℕ) (statements : List Statement) → Gives (told name) most_bytes bytes → script.Reads bytes statements
+      → AreCarriedOut name told rose 1 no_routers statements end text → IsScriptRun name told rose end text
 
 pub data IsRun (words : List (List ℕ)) (told : List ℕ → Option (List ℕ)) (rose : List ℕ → Type 0) (end : Cause) (text : List ℕ) : Type 0 where
   bad_words : ((name : List ℕ) → IsForm words name → ⊥) → end ≡ cause.BadWords → text ≡ usage → IsRun words told rose end text

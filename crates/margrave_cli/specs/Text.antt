@@ -1,7 +1,8 @@
--- What is written.
+-- The lines of a run that are no texts of statements.
 use Rattle.std.specs.Prelude.{ℕ, List, ◌++◌, codes}
 use Rattle.std.specs.Fmt.{decimal}
-use Rattle.margrave_cli.specs.Literals.{dotted}
+use Rattle.ios_lex.specs.declared.reason.IosReason.{IosReason}
+use Rattle.ios_lex.specs.declared.reason.IosReason.TheVariants as ios
 use Rattle.margrave_cli.specs.declared.ended.Reason.{Reason}
 use Rattle.margrave_cli.specs.declared.ended.Reason.TheVariants as reason
 
@@ -11,28 +12,30 @@ usage = codes "usage: margrave SCRIPT\n"
 unfoldable pub fault_line : List ℕ → List ℕ
 fault_line file = codes "read fault: " ++ file ++ codes "\n"
 
+-- the name of the reason; words that are not modelled are named
+abbrev pub ios_word : IosReason → List ℕ
+ios_word ios.BadAddress = codes "BadAddress"
+ios_word ios.BadNumber = codes "BadNumber"
+ios_word ios.UnknownName = codes "UnknownName"
+ios_word ios.BadMask = codes "BadMask"
+ios_word ios.WrongKind = codes "WrongKind"
+ios_word ios.DuplicateSequence = codes "DuplicateSequence"
+ios_word ios.BadEntry = codes "BadEntry"
+ios_word (ios.Unmodelled word) = codes "Unmodelled " ++ word
+ios_word ios.NextHopNotConnected = codes "NextHopNotConnected"
+ios_word ios.UnknownInterface = codes "UnknownInterface"
+ios_word ios.DuplicateStatic = codes "DuplicateStatic"
+ios_word ios.Unclosed = codes "Unclosed"
+ios_word ios.TooMany = codes "TooMany"
+
 abbrev pub reason_word : Reason → List ℕ
 reason_word reason.NotBuilt = codes "NotBuilt"
 reason_word (reason.TooLong given) = codes "TooLong"
+reason_word (reason.Ios why) = ios_word why
+reason_word reason.Duplicate = codes "Duplicate"
+reason_word reason.UnknownPolicy = codes "UnknownPolicy"
+reason_word reason.OutOfRange = codes "OutOfRange"
+reason_word reason.NoExplore = codes "NoExplore"
 
 unfoldable pub refused_line : List ℕ → ℕ → Reason → List ℕ
 refused_line file line reason = codes "refused: " ++ file ++ codes ":" ++ decimal line ++ codes ": " ++ reason_word reason ++ codes "\n"
-
--- a configuration of this release has one list and nothing else
-unfoldable pub loaded_line : List ℕ → List ℕ
-loaded_line name = codes "loaded " ++ name ++ codes ": 0 interfaces, 1 lists, 0 translations, 0 routes, 0 lines ignored\n"
-
--- the scenario of this source, which is in the range that the question names: the fifteen fields of the request, all
--- others 0, and the question's test
-unfoldable pub scenario : ℕ → ℕ → ℕ → List ℕ
-scenario address wildcard source =
-    codes "scenario 1\n  entry = 0\n  src_in = "
-    ++ (dotted source
-    ++ (codes "\n  dst_in = 0.0.0.0\n  sport_in = 0\n  dport_in = 0\n  proto = 0\n  flags = 0\n  icmp_type = 0\n  icmp_code = 0\n  src_out = 0.0.0.0\n  dst_out = 0.0.0.0\n  sport_out = 0\n  dport_out = 0\n  next_hop = 0.0.0.0\n  exit = 0\n  + src_in IN "
-    ++ (dotted address
-    ++ (codes " "
-    ++ (dotted wildcard
-    ++ codes "\n")))))
-
-unfoldable pub no_scenario : List ℕ
-no_scenario = codes "no scenario\n"

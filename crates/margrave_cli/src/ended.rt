@@ -1,25 +1,36 @@
-use ios_lex::Word;
-use std::fmt;
+use ios_config::ConfigReason;
+use ios_lex::{IosReason, Word};
 
 /// Why a text is refused.
 #[derive(Debug, Drop)]
 pub enum Reason {
-    /// The text departs from what this release reads.
+    /// A form that this release does not read.
     NotBuilt,
     /// The file has more bytes than are read; so many were counted.
     TooLong { given: u64 },
+    /// A line of a configuration says something that is wrong, or that is not modelled.
+    Ios(IosReason),
+    /// The name is taken.
+    Duplicate,
+    /// No list of this name is defined.
+    UnknownPolicy,
+    /// A number does not fit its field.
+    OutOfRange,
+    /// SHOW stands before any EXPLORE.
+    NoExplore,
 }
 
-impl fmt::Display for Reason {
-    ghost use Rattle.std.specs.Prelude.{Some};
-    ghost use Rattle.margrave_cli.specs.Text.{reason_word};
+impl Reason {
+    ghost use Rattle.std.specs.Prelude.{◌≡◌};
+    ghost use Rattle.margrave_cli.specs.Steps.{reason_of};
 
-    ghost output = { λ reason. Some (reason_word reason) };
-
-    fn fmt<W: fmt::Write>(&self, f: &mut fmt::Formatter<W>) -> fmt::Result {
-        match self {
-            Reason::NotBuilt => f.write_str("NotBuilt"),
-            Reason::TooLong { .. } => f.write_str("TooLong"),
+    /// The reason of a configuration's line.
+    pub(crate) fn of(why: ConfigReason) -> Reason
+        ensures { result ≡ reason_of why }
+    {
+        match why {
+            ConfigReason::Ios(why) => Reason::Ios(why),
+            ConfigReason::NotBuilt => Reason::NotBuilt,
         }
     }
 }

@@ -1,6 +1,8 @@
-ghost use Rattle.std.specs.Prelude.{◌≡◌};
-ghost use Rattle.margrave_cli.specs.Endings.{IsFaultEnd, IsRefusal, IsTold, Says, cause_of};
+ghost use Rattle.std.specs.Prelude.{◌≡◌, ◌≤◌, OnOk, IfErr};
+ghost use Rattle.mg_outside.specs.Taking.{Takes};
+ghost use Rattle.margrave_cli.specs.Endings.{Breaks, IsFaultEnd, IsTold, Says, cause_of};
 ghost use Rattle.margrave_cli.specs.Run.{Blames, IsWritten};
+ghost use Rattle.margrave_cli.specs.Steps.{IsRefusal};
 
 use crate::ended::{Cause, Reason};
 use crate::text::{fault_text, refused_text};
@@ -8,13 +10,34 @@ use ios_lex::Word;
 use mg_outside::{FileFault, Sink, SinkFault};
 use std::alloc::Global;
 
+/// A line of the script.
+#[derive(Drop)]
+pub struct Line<'a> {
+    pub script: &'a str,
+    /// From 1.
+    pub number: u64,
+}
+
+/// Writes a text of a run that goes on.
+pub fn write<S: Sink>(out: &mut S, text: &[u8]) -> Result<(), Cause>
+    ensures taken { OnOk result (Takes (S.taken out.old) (S.taken out.new) text.now) }
+    ensures broken { IfErr result (IsWritten (Breaks text.now) (S.taken out.old) (S.taken out.new)) }
+    ensures later { S.faults out.old ≤ S.faults out.new }
+    ensures blames { IfErr result (Blames (S.faults out.old) (S.faults out.new)) }
+{
+    match out.write_all(text) {
+        Ok(()) => Ok(()),
+        Err(fault) => Err(cause_of(fault)),
+    }
+}
+
 /// Writes the last text of a run that ends so.
-pub fn say<S: Sink>(out: &mut S, text: &str, end: Cause) -> Cause
+pub fn say<S: Sink>(out: &mut S, text: &[u8], end: Cause) -> Cause
     requires { IsTold end }
     ensures written { IsWritten (Says end text.now) (S.taken out.old) (S.taken out.new) result }
     ensures blames { Blames (S.faults out.old) (S.faults out.new) result }
 {
-    match out.write_all(text.as_bytes()) {
+    match out.write_all(text) {
         Ok(()) => end,
         Err(fault) => cause_of(fault),
     }
@@ -46,7 +69,15 @@ pub fn refuse<S: Sink>(alloc: Global, file: &str, line: u64, reason: Reason, out
         line,
         reason,
     };
-    say(out, text.as_str(), end)
+    say(out, text.as_slice(), end)
+}
+
+/// Ends the run with the refusal of a line of the script.
+pub fn refuse_line<S: Sink>(alloc: Global, at: &Line<'_>, reason: Reason, out: &mut S) -> Cause
+    ensures written { IsWritten (IsRefusal at.now.script.now at.now.number reason) (S.taken out.old) (S.taken out.new) result }
+    ensures blames { Blames (S.faults out.old) (S.faults out.new) result }
+{
+    refuse(alloc, at.script, at.number, reason, out)
 }
 
 /// Ends the run with a file that was not read.
@@ -72,5 +103,5 @@ fn fail<S: Sink>(alloc: Global, file: &str, out: &mut S) -> Cause
     let Ok(word) = Word::of(alloc, file.as_bytes()) else {
         return Cause::NoMemory;
     };
-    say(out, text.as_str(), Cause::ReadFault { file: word })
+    say(out, text.as_bytes(), Cause::ReadFault { file: word })
 }

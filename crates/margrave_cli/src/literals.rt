@@ -1,54 +1,58 @@
-ghost use Rattle.std.specs.Prelude.{◌≡◌, ℕ, ◌^◌, ◌<◌, ◌≤◌, IfSome, IfNone};
-ghost use Rattle.std.specs.Fmt.{decimal};
-ghost use Rattle.margrave_cli.specs.Literals.{dotted};
+ghost use Rattle.std.specs.Prelude.{◌≡◌, ℕ, List, IfSome, IfNone};
+ghost use Rattle.margrave_cli.specs.Literals.{IsByte, IsDotted, IsLiteral, IsNumber};
 
-use ios_lex::{four_parts, number};
-use std::fmt;
+use ios_lex::four_parts;
 
-/// The number that the text writes without leading zeros, where it is at most `max`.
-pub fn plain_number(text: &[u8], max: u64) -> Option<u64>
-    requires { max < 10 ^ 10 }
-    ensures found { IfSome result (λ n. text.now ≡ decimal n) }
-    ensures within { IfSome result (λ n. n ≤ max) }
-    ensures none { IfNone result ((n : ℕ) → n ≤ max → text.now ≡ decimal n → ⊥) }
+/// The number that a word of decimal digits spells; one too great for any field counts as the greatest of 64 bits.
+fn number(word: &[u8]) -> Option<u64>
+    ensures found { IfSome result (IsNumber word.now) }
+    ensures none { IfNone result ((n : ℕ) → IsNumber word.now n → ⊥) }
 {
-    let n = number(text, max)?;
-    if text.len() > 1 && text[0] == b'0' {
+    if word.is_empty() {
         return None;
+    }
+    let mut n = 0u64;
+    for digit in word {
+        if !digit.is_ascii_digit() {
+            return None;
+        }
+        n = n
+            .saturating_mul(10)
+            .saturating_add(u64::from(*digit - b'0'));
     }
     Some(n)
 }
 
-/// The address that the text writes, its four bytes without leading zeros.
-pub fn plain_address(text: &[u8]) -> Option<u32>
-    ensures found { IfSome result (λ n. text.now ≡ dotted n) }
-    ensures none { IfNone result ((n : ℕ) → n < 2 ^ 32 → text.now ≡ dotted n → ⊥) }
+/// The number from 0 to 255 that decimal digits spell; zeros may stand in front.
+fn byte(word: &[u8]) -> Option<u8>
+    ensures found { IfSome result (IsByte word.now) }
+    ensures none { IfNone result ((n : ℕ) → IsByte word.now n → ⊥) }
 {
-    let (first, second, third, fourth) = four_parts(text)?;
-    let a = plain_number(first, 255)?;
-    let b = plain_number(second, 255)?;
-    let c = plain_number(third, 255)?;
-    let d = plain_number(fourth, 255)?;
-    Some((((a * 256 + b) * 256 + c) * 256 + d) as u32)
+    let n = number(word)?;
+    if n <= 255 { Some(n as u8) } else { None }
 }
 
-/// An address as it is written: its four bytes joined by dots.
-#[derive(Clone, Copy, Debug)]
-pub struct Dotted(pub u32);
+/// The number of four bytes joined by dots, the first the heaviest.
+fn dotted(word: &[u8]) -> Option<u32>
+    ensures found { IfSome result (IsDotted word.now) }
+    ensures none { IfNone result ((n : ℕ) → IsDotted word.now n → ⊥) }
+{
+    let (first, second, third, fourth) = four_parts(word)?;
+    let a = byte(first)?;
+    let b = byte(second)?;
+    let c = byte(third)?;
+    let d = byte(fourth)?;
+    Some(u32::from_be_bytes([a, b, c, d]))
+}
 
-impl fmt::Display for Dotted {
-    ghost use Rattle.std.specs.Prelude.{Some};
-    ghost use Rattle.margrave_cli.specs.Literals.{dotted};
-
-    ghost output = { λ address. Some (dotted address.0) };
-
-    #[tactic(auto, unfolding(crate::specs::Literals::dotted))]
-    fn fmt<W: fmt::Write>(&self, f: &mut fmt::Formatter<W>) -> fmt::Result {
-        let address = self.0;
-        let first = address / 0x100_0000;
-        let second = address / 0x1_0000 % 256;
-        let third = address / 0x100 % 256;
-        let fourth = address % 256;
-        write!(f, "{first}.{second}.{third}.{fourth}")
+/// The number that a word of a script spells: decimal digits, or four bytes joined by dots. A number too great for any
+/// field counts as the greatest of 64 bits.
+pub fn literal(word: &[u8]) -> Option<u64>
+    ensures found { IfSome result (IsLiteral word.now) }
+    ensures none { IfNone result ((n : ℕ) → IsLiteral word.now n → ⊥) }
+{
+    match number(word) {
+        Some(n) => Some(n),
+        None => Some(u64::from(dotted(word)?)),
     }
 }

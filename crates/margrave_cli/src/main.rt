@@ -5,14 +5,27 @@
 //! them in. Nothing stands above.
 #![tactic(auto)]
 
-mod answer;
-mod configuration;
+mod asking;
+mod cuts;
+mod decide;
+mod deciding;
 mod ended;
 mod endings;
+mod explore;
+mod field_tests;
+mod field_values;
+mod library;
 mod literals;
+mod load;
+mod loading;
 mod names;
+mod path;
+mod ranges;
 mod run;
 mod script;
+mod state;
+mod statement;
+mod statements;
 mod text;
 mod words;
 

@@ -1,7 +1,8 @@
-ghost use Rattle.std.specs.Prelude.{◌≡◌, ◌↔◌, IsTrue};
+ghost use Rattle.std.specs.Prelude.{◌≡◌, ◌↔◌, ◌==◌, ◌&&◌, ◌||◌, not, IsTrue};
 ghost use Rattle.std.specs.List.{list_all, list_any};
 ghost use Rattle.std.specs.Str.{bytes_eq};
-ghost use Rattle.margrave_cli.specs.Names.{IsRouterName, is_keyword, is_letter, is_lettered, is_quotable, is_word_byte};
+ghost use Rattle.ios_config.specs.ListNames as lists;
+ghost use Rattle.margrave_cli.specs.Names.{IsName, is_digit, is_keyword, is_letter, is_lettered, is_quotable, is_word, is_word_byte};
 
 /// The words that scripts keep for themselves; none of them is a name.
 pub const KEYWORDS: [&str; 33] = [
@@ -46,10 +47,16 @@ fn is_letter(byte: u8) -> bool
     (b'A' <= byte && byte <= b'Z') || (b'a' <= byte && byte <= b'z')
 }
 
+fn is_digit(byte: u8) -> bool
+    ensures { result ≡ is_digit byte }
+{
+    b'0' <= byte && byte <= b'9'
+}
+
 fn is_word_byte(byte: u8) -> bool
     ensures { result ≡ is_word_byte byte }
 {
-    is_letter(byte) || (b'0' <= byte && byte <= b'9') || byte == b'_' || byte == b'-'
+    is_letter(byte) || is_digit(byte) || byte == b'_' || byte == b'-'
 }
 
 fn are_word_bytes(text: &[u8]) -> bool
@@ -73,6 +80,22 @@ fn is_lettered(text: &[u8]) -> bool
     }
 }
 
+/// Whether the text is a word: it begins with a letter, a digit or the underscore.
+pub fn is_word(text: &[u8]) -> bool
+    ensures { result ≡ is_word text.now }
+{
+    match text.split_first() {
+        None => false,
+        Some((first, others)) => begins_word(*first) && are_word_bytes(others),
+    }
+}
+
+fn begins_word(byte: u8) -> bool
+    ensures { result ≡ (is_letter byte || is_digit byte || (byte == 95)) }
+{
+    is_letter(byte) || is_digit(byte) || byte == b'_'
+}
+
 fn is_among(text: &[u8], words: &[&str]) -> bool
     ensures { result ≡ list_any (λ word. bytes_eq text.now word.now) words.now }
 {
@@ -91,10 +114,10 @@ fn is_keyword(text: &[u8]) -> bool
 }
 
 /// Whether a script may give a router this name.
-pub fn is_router_name(text: &[u8]) -> bool
-    ensures { IsTrue result ↔ IsRouterName text.now }
+pub fn is_name(text: &[u8]) -> bool
+    ensures { IsTrue result ↔ IsName text.now }
 {
-    is_lettered(text) && !is_keyword(text) && text != b"net".as_slice()
+    is_lettered(text) && !is_keyword(text)
 }
 
 fn is_quotable_byte(byte: u8) -> bool
@@ -109,6 +132,24 @@ pub fn is_quotable(text: &[u8]) -> bool
 {
     for byte in text {
         if !is_quotable_byte(*byte) {
+            return false;
+        }
+    }
+    true
+}
+
+fn is_list_byte(byte: u8) -> bool
+    ensures { result ≡ (lists.is_between 33 126 byte && not (byte == 34)) }
+{
+    33 <= byte && byte <= 126 && byte != b'"'
+}
+
+/// Whether the text is the name of an access list, which is written between quotes where it is no word.
+pub fn is_list_name(text: &[u8]) -> bool
+    ensures { result ≡ lists.is_name text.now }
+{
+    for byte in text {
+        if !is_list_byte(*byte) {
             return false;
         }
     }

@@ -1,14 +1,15 @@
-ghost use Rattle.std.specs.Prelude.{◌≡◌, IfOk};
+ghost use Rattle.std.specs.Prelude.{◌≡◌, ◌++◌, codes, IfOk, OnOk};
 ghost use Rattle.std.specs.String.{string_bytes};
-ghost use Rattle.margrave_cli.specs.Text.{fault_line, loaded_line, refused_line, scenario};
+ghost use Rattle.margrave_cli.specs.Text.{fault_line, ios_word, reason_word, refused_line};
 
 use crate::ended::Reason;
-use crate::literals::Dotted;
+use ios_lex::IosReason;
 use std::alloc::{AllocError, Global};
 
 /// What is written where the words are not of the stated form.
 pub const USAGE: &str = "usage: margrave SCRIPT\n";
 
+/// What is written of a file whose read failed.
 #[tactic(auto, unfolding(crate::specs::Text::fault_line))]
 pub fn fault_text(alloc: Global, file: &str) -> Result<String, AllocError>
     ensures { IfOk result (λ text. string_bytes text ≡ fault_line file.now) }
@@ -16,46 +17,62 @@ pub fn fault_text(alloc: Global, file: &str) -> Result<String, AllocError>
     format!(in alloc; "read fault: {file}\n")
 }
 
+/// What is written of a text that is refused, at this line of this file. Bytes, since a word that is not modelled may be
+/// no text.
 #[tactic(auto, unfolding(crate::specs::Text::refused_line))]
 pub fn refused_text(
     alloc: Global,
     file: &str,
     line: u64,
     reason: &Reason,
-) -> Result<String, AllocError>
-    ensures { IfOk result (λ text. string_bytes text ≡ refused_line file.now line reason.now) }
+) -> Result<Vec<u8>, AllocError>
+    ensures { IfOk result (λ text. text.items ≡ refused_line file.now line reason.now) }
 {
-    format!(in alloc; "refused: {file}:{line}: {reason}\n")
+    let place = format!(in alloc; "refused: {file}:{line}: ")?;
+    let mut text = Vec::from_slice(alloc, place.as_bytes())?;
+    push_reason(&mut text, reason)?;
+    text.extend_from_slice(b"\n")?;
+    Ok(text)
 }
 
-/// What is written once the configuration is read, under the name that the script gives it.
-#[tactic(auto, unfolding(crate::specs::Text::loaded_line))]
-pub fn loaded_text(alloc: Global, name: &str) -> Result<String, AllocError>
-    ensures { IfOk result (λ text. string_bytes text ≡ loaded_line name.now) }
+fn push_reason(text: &mut Vec<u8>, reason: &Reason) -> Result<(), AllocError>
+    ensures { OnOk result (text.new.items ≡ text.old.items ++ reason_word reason.now) }
 {
-    format!(in alloc;
-        "loaded {name}: 0 interfaces, 1 lists, 0 translations, 0 routes, 0 lines ignored\n"
-    )
+    match reason {
+        Reason::Ios(why) => push_ios_reason(text, why),
+        Reason::NotBuilt => text.extend_from_slice(b"NotBuilt"),
+        Reason::TooLong { .. } => text.extend_from_slice(b"TooLong"),
+        Reason::Duplicate => text.extend_from_slice(b"Duplicate"),
+        Reason::UnknownPolicy => text.extend_from_slice(b"UnknownPolicy"),
+        Reason::OutOfRange => text.extend_from_slice(b"OutOfRange"),
+        Reason::NoExplore => text.extend_from_slice(b"NoExplore"),
+    }
 }
 
-/// What is written where no source serves.
-pub const NO_SCENARIO: &str = "no scenario\n";
-
-/// The scenario of this source, which is in the range of the address and the wildcard: the fields of the request, and
-/// the test of the question.
-#[tactic(auto, unfolding(crate::specs::Text::scenario))]
-pub fn scenario_text(
-    alloc: Global,
-    address: u32,
-    wildcard: u32,
-    source: u32,
-) -> Result<String, AllocError>
-    ensures { IfOk result (λ text. string_bytes text ≡ scenario address wildcard source) }
+fn push_ios_reason(text: &mut Vec<u8>, why: &IosReason) -> Result<(), AllocError>
+    ensures { OnOk result (text.new.items ≡ text.old.items ++ ios_word why.now) }
 {
-    let source = Dotted(source);
-    let address = Dotted(address);
-    let wildcard = Dotted(wildcard);
-    format!(in alloc;
-        "scenario 1\n  entry = 0\n  src_in = {source}\n  dst_in = 0.0.0.0\n  sport_in = 0\n  dport_in = 0\n  proto = 0\n  flags = 0\n  icmp_type = 0\n  icmp_code = 0\n  src_out = 0.0.0.0\n  dst_out = 0.0.0.0\n  sport_out = 0\n  dport_out = 0\n  next_hop = 0.0.0.0\n  exit = 0\n  + src_in IN {address} {wildcard}\n"
-    )
+    match why {
+        IosReason::Unmodelled(word) => push_unmodelled(text, word.bytes()),
+        IosReason::BadAddress => text.extend_from_slice(b"BadAddress"),
+        IosReason::BadNumber => text.extend_from_slice(b"BadNumber"),
+        IosReason::UnknownName => text.extend_from_slice(b"UnknownName"),
+        IosReason::BadMask => text.extend_from_slice(b"BadMask"),
+        IosReason::WrongKind => text.extend_from_slice(b"WrongKind"),
+        IosReason::DuplicateSequence => text.extend_from_slice(b"DuplicateSequence"),
+        IosReason::BadEntry => text.extend_from_slice(b"BadEntry"),
+        IosReason::NextHopNotConnected => text.extend_from_slice(b"NextHopNotConnected"),
+        IosReason::UnknownInterface => text.extend_from_slice(b"UnknownInterface"),
+        IosReason::DuplicateStatic => text.extend_from_slice(b"DuplicateStatic"),
+        IosReason::Unclosed => text.extend_from_slice(b"Unclosed"),
+        IosReason::TooMany => text.extend_from_slice(b"TooMany"),
+    }
+}
+
+fn push_unmodelled(text: &mut Vec<u8>, word: &[u8]) -> Result<(), AllocError>
+    ensures { OnOk result (text.new.items ≡ text.old.items ++ (codes "Unmodelled " ++ word.now)) }
+{
+    text.extend_from_slice(b"Unmodelled ")?;
+    text.extend_from_slice(word)?;
+    Ok(())
 }

@@ -1,17 +1,20 @@
-use Rattle.std.proofs.Common.{rules, ◌≡◌, None, length, replicate}
+use Rattle.std.proofs.Common.{rules, ◌≡◌, None, length, replicate, ap, ◌∙◌}
 use Rattle.std.proofs.lemmas.Bool.{MatchBool-at_false}
 use Rattle.circuit.specs.Search.{IsLeastAfter, NoneAfter}
 use Rattle.circuit.proofs.Found.{none_at_all}
-use Rattle.circuit.proofs.Settling.{nothing_settled}
+use Rattle.circuit.proofs.Settling.{length-settled, nothing_settled}
 use Rattle.circuit.proofs.search.least.Goals as goal
 
 pub settle-requires-clause-kept : goal.settle-requires-clause-kept
 settle-requires-clause-kept c =
-    let blank : c.as_slice-2.result.now ≡ replicate (length c.gates-gates.result.now) None = search rules in
-    rw blank (nothing_settled c.gates-gates.result.now c.as_slice-3.result.now)
+    let blank : c.as_slice.result.now ≡ replicate (length c.gates-gates.result.now) None = search rules in
+    rw blank (nothing_settled c.gates-gates.result.now c.as_slice-2.result.now)
 
-pub returns-clause-none : goal.returns-clause-none
-returns-clause-none c =
+pub support-requires-clause-count : goal.support-requires-clause-count
+support-requires-clause-count c = ap length (c.as_slice-3.ensures.value ∙ c.in_ok-table.ensures) ∙ length-settled c.gates-gates.result.now c.as_slice-2.result.now
+
+pub returns-else-branch-clause-none : goal.returns-else-branch-clause-none
+returns-else-branch-clause-none c =
     let gates = c.gates-gates.result.now in
     let root = c.place-2.result in
     let start = c.new-inputs.result.items in

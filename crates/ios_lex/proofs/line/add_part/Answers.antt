@@ -1,4 +1,6 @@
 use Rattle.std.proofs.Common.{true, ◌+◌, ◌∷◌, ◌++◌, [], refl, ap, ◌∙◌, append_assoc, arith, map}
+use Rattle.std.proofs.lemmas.Option.{IfSome_then}
+use Rattle.std.proofs.lemmas.Result.{IfOk-weaker}
 use Rattle.ios_lex.specs.LineReadings.{reading_of}
 use Rattle.ios_lex.specs.Lines as specs
 use Rattle.ios_lex.specs.Lines.{reading, outside, inside}
@@ -16,6 +18,6 @@ returns-then-occurs-clause-part c =
 
 pub returns-clause-part : goal.returns-clause-part
 returns-clause-part c =
-    let ends = rw c.in-Some-2.is at c.in_ok-next.ensures.ends in
-    let banner = ends_later c.args.line.now c.in-Some.text.now c.delimiter_len-len.result ends.0 c.in-Some.ensures.found c.delimiter_len-len.ensures.value (c.occurs.ensures.none c.if-occurs.false) ends.2 in
-    (inside c.args.number (c.args.line.now ∷ ends.0), specs.banner c.args.line.now ends.0 (ap (λ more. c.args.line.now ∷ more) ends.1) banner refl ends.3, ends.4 ∙ ap (λ made. made ++ inside (c.args.number + 1) ends.0) c.in_ok-add_line.ensures ∙ append_assoc (map reading_of c.args.lines.now.items) (reading c.args.number true c.args.line.now ∷ []) (inside (c.args.number + 1) ends.0))
+    IfOk-weaker c.add_body.result _ _ (λ end ends. IfSome_then end ends (λ at some.
+    let banner = ends_later c.args.line.now c.in-Some.text.now c.delimiter_len-len.result some.0 c.in-Some.ensures.found c.delimiter_len-len.ensures.value (c.occurs.ensures.none c.if-occurs.false) some.2 in
+    (inside c.args.number (c.args.line.now ∷ some.0), specs.banner c.args.line.now some.0 (ap (λ more. c.args.line.now ∷ more) some.1) banner refl some.3, some.4 ∙ ap (λ made. made ++ inside (c.args.number + 1) some.0) c.in_ok-add_line.ensures ∙ append_assoc (map reading_of c.args.lines.now.items) (reading c.args.number true c.args.line.now ∷ []) (inside (c.args.number + 1) some.0)))) c.add_body.ensures.ends

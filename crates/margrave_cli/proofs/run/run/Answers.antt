@@ -1,7 +1,7 @@
 use Rattle.mg_outside.specs.Faults.{Rose}
-use Rattle.margrave_cli.specs.Run.{IsScriptRun, bad_words, form}
 use Rattle.margrave_cli.specs.declared.ended.Cause.TheVariants as cause
 use Rattle.margrave_cli.specs.Endings.{Says}
+use Rattle.margrave_cli.specs.Run.{IsScriptRun, bad_words, form}
 use Rattle.margrave_cli.specs.Text.{usage}
 use Rattle.margrave_cli.proofs.Completeness.{completes}
 use Rattle.margrave_cli.proofs.Writing.{written_weaker}
@@ -13,7 +13,7 @@ returns-in_default-clause-headline g c =
     let none = rw c.in_default.is at c.script_of.ensures.none in
     rw c.by.ensures.cause
     (written_weaker (Says cause.BadWords usage) _ (λ end text says. bad_words none says.0 says.1)
-    _ _ c.say.result c.say.ensures.written)
+    _ _ c.say.result (rw c.as_bytes.ensures.value at c.say.ensures.written))
 
 pub returns-clause-headline : goal.returns-clause-headline
 returns-clause-headline g c =

@@ -1,36 +1,41 @@
-use Rattle.std.proofs.Common.{List, ℕ, Err, ap}
+use Rattle.std.proofs.Common.{List, [], ℕ, Err, ap, map}
 use Rattle.mg_outside.specs.Faults.{Rose}
-use Rattle.margrave_cli.specs.declared.ended.Reason.TheVariants as reason
-use Rattle.margrave_cli.specs.Asked.{asked}
-use Rattle.margrave_cli.specs.Endings.{IsFaultEnd, IsRefusal}
-use Rattle.margrave_cli.specs.Run.{IsQuestionRun, script_unread, script_refused, asked as asks}
+use Rattle.margrave_cli.specs.Asked.{statement_of}
+use Rattle.margrave_cli.specs.Endings.{IsFaultEnd}
+use Rattle.margrave_cli.specs.Run.{AreCarriedOut, no_routers, unread, refused, read}
+use Rattle.margrave_cli.specs.Steps.{IsRefusal}
+use Rattle.margrave_cli.proofs.Faults.{fault_is_unread}
+use Rattle.margrave_cli.proofs.Moves.{carried_out_moves}
+use Rattle.margrave_cli.proofs.Ordered.{have_packets}
 use Rattle.margrave_cli.proofs.Writing.{written_weaker, rose_from_earlier}
-use Rattle.margrave_cli.proofs.Runs.{fault_is_unread, question_run_moves}
 use Rattle.margrave_cli.proofs.run.run_script.Goals as goal
 
 pub returns-in-Err-clause-written : goal.returns-in-Err-clause-written
 returns-in-Err-clause-written g c =
     let file = c.args.name.now in
     written_weaker (IsFaultEnd file c.in-Err.fault) _
-    (λ end text says. script_unread (fault_is_unread file _ _ c.in-Err.fault (λ why. c.in-Err.ensures.failed (ap Err why)) c.in-Err.ensures.too_long end text says))
+    (λ end text says. unread (fault_is_unread file _ _ c.in-Err.fault (λ why. c.in-Err.ensures.failed (ap Err why)) c.in-Err.ensures.too_long end text says))
     _ _ c.end_unread.result c.end_unread.ensures.written
+
+pub carry_out_all-requires-clause-packets : goal.carry_out_all-requires-clause-packets
+carry_out_all-requires-clause-packets g c =
+    rw c.as_slice-in-Ok-read_script.ensures.value (have_packets _ c.as_slice.result.now [] c.in-Ok-read_script.ensures.read.lines)
 
 pub returns-in-Ok-read_script-clause-written : goal.returns-in-Ok-read_script-clause-written
 returns-in-Ok-read_script-clause-written g c =
     let gives = rw (← c.as_slice.ensures.value) at c.in-Ok.ensures.bytes in
-    let question = asked c.in-Ok-read_script.question in
-    let rose : List ℕ → Type 0 = λ file. Rose (g.F.Files.faults c.read.new.self file) (g.F.Files.faults c.run_question.new.files file) in
-    written_weaker (IsQuestionRun c.args.name.now question (g.F.Files.holds c.read.new.self) rose) _
-    (λ end text is_run.
-    asks c.as_slice.result.now question gives c.in-Ok-read_script.ensures.read
-    (question_run_moves c.args.name.now question _ (g.F.Files.holds c.args.files.now) rose _
-    (c.read.ensures.same question.file)
-    (λ r. rose_from_earlier _ _ _ (c.read.ensures.later question.file) r) end text is_run))
-    _ _ c.run_question.result c.run_question.ensures.written
+    let statements = map statement_of c.in-Ok-read_script.statements.items in
+    let rose : List ℕ → Type 0 = λ file. Rose (g.F.Files.faults c.read.new.self file) (g.F.Files.faults c.carry_out_all.new.files file) in
+    written_weaker (AreCarriedOut c.args.name.now (g.F.Files.holds c.read.new.self) rose 1 no_routers statements) _
+    (λ end text is_run. read c.as_slice.result.now statements gives c.in-Ok-read_script.ensures.read
+    (carried_out_moves c.args.name.now (g.F.Files.holds c.read.new.self) (g.F.Files.holds c.args.files.now) rose _ c.read.ensures.same
+    (λ file r. rose_from_earlier _ _ _ (c.read.ensures.later file) r) 1 no_routers statements end text is_run))
+    _ _ c.carry_out_all.result (rw c.as_slice-in-Ok-read_script.ensures.value at c.carry_out_all.ensures.written)
 
-pub returns-clause-written : goal.returns-clause-written
-returns-clause-written g c =
+pub returns-in-Err-Refused-clause-written : goal.returns-in-Err-Refused-clause-written
+returns-in-Err-Refused-clause-written g c =
     let gives = rw (← c.as_slice.ensures.value) at c.in-Ok.ensures.bytes in
-    written_weaker (IsRefusal c.args.name.now c.in-Err-read_script.line reason.NotBuilt) _
-    (λ end text says. script_refused c.as_slice.result.now c.in-Err-read_script.line gives c.in-Err-read_script.ensures.refused says.0 says.1)
+    let refuses = rw c.in-Err-Refused.field-0-is at c.in-Err-Refused.ensures.refused in
+    written_weaker (IsRefusal c.args.name.now c.in-Err-Refused.line c.in-Err-Refused.reason) _
+    (λ end text says. refused c.as_slice.result.now c.in-Err-Refused.line c.in-Err-Refused.reason gives refuses says)
     _ _ c.refuse.result c.refuse.ensures.written

@@ -1,11 +1,9 @@
-use Rattle.margrave_cli.proofs.ScriptTexts.{same_question, same_line, not_both}
+use Rattle.margrave_cli.proofs.StatementLists.{same_statements, same_refusal, not_both}
 use Rattle.margrave_cli.proofs.script.one_reading.Goals as goal
 
-pub returns-clause-same_question : goal.returns-clause-same_question
-returns-clause-same_question c = same_question
-
-pub returns-clause-same_line : goal.returns-clause-same_line
-returns-clause-same_line c = same_line
-
-pub returns-clause-not_both : goal.returns-clause-not_both
-returns-clause-not_both c = not_both
+pub returns : goal.returns
+returns c = record {
+  same_statements = same_statements;
+  same_refusal = λ text line other why reason first second. same_refusal first second;
+  not_both = λ text statements line why reading refused. not_both reading refused;
+}

@@ -1,41 +1,28 @@
-use Rattle.std.proofs.Common.{◌≡◌, ℕ, List, [], length, ap, sym, ◌∙◌, ◌==◌, arith, ◌∷◌, refl}
+use Rattle.std.proofs.Common.{◌≡◌, ◌+◌, ◌∷◌, ◌++◌, [], ◌∙◌, ◌==◌, length, map, ap, sym, arith, rules}
 use Rattle.std.proofs.lemmas.Bool.{false≢true, eqb-true}
-use Rattle.margrave_cli.proofs.ScriptTexts.{has_first, has_second, no_first_line, no_load, no_second_line, no_explore, no_show, goes_on, reads}
+use Rattle.std.proofs.lemmas.List.{map-append, length-map}
+use Rattle.std.proofs.lemmas.Result.{err_from_is_err_and}
+use Rattle.margrave_cli.specs.Asked.{statement_of}
+use Rattle.margrave_cli.proofs.StatementLists.{read_more, reads, refused_at, empty}
 use Rattle.margrave_cli.proofs.script.read_script.Goals as goal
 
-empty : (end : List ℕ) → length end ≡ 0 → end ≡ []
-empty [] none = refl
-empty (x ∷ xs) none = absurd (omega arith)
+pub returns-in_err-statement-clause-refused : goal.returns-in_err-statement-clause-refused
+returns-in_err-statement-clause-refused c =
+    let p = err_from_is_err_and c.from_residual.result c.from_residual.ensures.1 in
+    rw (p.1, p.2) (refused_at c.args.text.now (map statement_of c.loop-rest.statements.items) c.loop-rest.rest.now c.loop-rest.asked (c.len.result + 1) _ c.loop-rest.invariant
+    (λ none. false≢true (sym c.loop-rest-test.true ∙ c.is_empty.ensures ∙ ap (λ left. length left == 0) none))
+    (omega (arith, length-map c.loop-rest.statements.items statement_of, c.len.ensures, c.loop-rest.statements.ok.0))
+    c.in_err-statement.ensures.refused)
 
-pub returns-in_default-clause-refused : goal.returns-in_default-clause-refused
-returns-in_default-clause-refused c = no_first_line c.args.text.now c.in_default.ensures.free
-
-pub returns-in_default-load-clause-refused : goal.returns-in_default-load-clause-refused
-returns-in_default-load-clause-refused c = no_load c.args.text.now c.in-Some.line.now c.in-Some.others.now c.in-Some.ensures.cut c.in_default-load.ensures.none
-
-pub returns-in_default-split_at_byte-clause-refused : goal.returns-in_default-split_at_byte-clause-refused
-returns-in_default-split_at_byte-clause-refused c =
-    let first = has_first _ _ _ _ _ c.in-Some.ensures.cut c.in-Some-load.ensures.found in
-    no_second_line c.args.text.now c.in-Some-load.file.now c.in-Some-load.name.now c.in-Some.others.now first c.in_default-split_at_byte.ensures.free
-
-pub returns-in_default-explore-clause-refused : goal.returns-in_default-explore-clause-refused
-returns-in_default-explore-clause-refused c =
-    let first = has_first _ _ _ _ _ c.in-Some.ensures.cut c.in-Some-load.ensures.found in
-    no_explore c.args.text.now c.in-Some-load.file.now c.in-Some-load.name.now c.in-Some.others.now c.in-Some-split_at_byte.line.now c.in-Some-split_at_byte.others.now first c.in-Some-split_at_byte.ensures.cut c.in_default-explore.ensures.none
-
-pub returns-in_default-after-clause-refused : goal.returns-in_default-after-clause-refused
-returns-in_default-after-clause-refused c =
-    let second = has_second _ _ _ _ _ _ _ _ _ _ c.in-Some.ensures.cut c.in-Some-load.ensures.found c.in-Some-split_at_byte.ensures.cut c.in-Some-explore.ensures.found in
-    no_show c.args.text.now _ c.in-Some-split_at_byte.others.now second c.in_default-after.ensures.none
-
-pub returns-then-not-is_empty-clause-refused : goal.returns-then-not-is_empty-clause-refused
-returns-then-not-is_empty-clause-refused c =
-    let second = has_second _ _ _ _ _ _ _ _ _ _ c.in-Some.ensures.cut c.in-Some-load.ensures.found c.in-Some-split_at_byte.ensures.cut c.in-Some-explore.ensures.found in
-    goes_on c.args.text.now _ c.in-Some-split_at_byte.others.now c.in-Some-after.end.now second c.in-Some-after.ensures.found
-    (λ none. false≢true (sym c.if-not-is_empty.true ∙ c.is_empty.ensures ∙ ap (λ (end : List ℕ). length end == 0) none))
+pub loop-rest-preserved : goal.loop-rest-preserved
+loop-rest-preserved c =
+    let pushed : c.push.new.self.items ≡ c.loop-rest.statements.items ++ c.in_ok-statement.statement ∷ [] = search rules in
+    let statements : map statement_of c.push.new.self.items ≡ map statement_of c.loop-rest.statements.items ++ statement_of c.in_ok-statement.statement ∷ [] =
+    ap (map statement_of) pushed ∙ map-append statement_of c.loop-rest.statements.items (c.in_ok-statement.statement ∷ []) in
+    rw (statements, c.is_explore-asked.ensures)
+    (read_more c.args.text.now (map statement_of c.loop-rest.statements.items) c.loop-rest.rest.now c.in_ok-statement.others.now c.loop-rest.asked (statement_of c.in_ok-statement.statement) c.loop-rest.invariant c.in_ok-statement.ensures.read c.in_ok-statement.ensures.ordered)
 
 pub returns-clause-read : goal.returns-clause-read
 returns-clause-read c =
-    let second = has_second _ _ _ _ _ _ _ _ _ _ c.in-Some.ensures.cut c.in-Some-load.ensures.found c.in-Some-split_at_byte.ensures.cut c.in-Some-explore.ensures.found in
-    reads c.args.text.now _ c.in-Some-split_at_byte.others.now c.in-Some-after.end.now second c.in-Some-after.ensures.found
-    (empty c.in-Some-after.end.now (eqb-true (length c.in-Some-after.end.now) 0 (sym c.is_empty.ensures ∙ c.if-not-is_empty.false)))
+    let none : length c.loop-rest.rest.now ≡ 0 = eqb-true (length c.loop-rest.rest.now) 0 (sym c.is_empty.ensures ∙ c.loop-rest-test.false) in
+    reads c.args.text.now (map statement_of c.loop-rest.statements.items) c.loop-rest.rest.now c.loop-rest.asked c.loop-rest.invariant (empty c.loop-rest.rest.now none)

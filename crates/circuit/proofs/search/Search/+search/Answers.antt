@@ -1,9 +1,9 @@
-use Rattle.std.proofs.Common.{rules, ◌≡◌, ◌<◌, ◌++◌, ◌∷◌, [], true, false, length, Some, None, vec_len, arith, ap, sym, ◌∙◌, refl}
+use Rattle.std.proofs.Common.{rules, ◌≡◌, ◌<◌, ◌++◌, ◌∷◌, [], true, false, length, Some, None, vec_len, arith, ap, ◌∙◌, refl}
 use Rattle.std.proofs.lemmas.Bool.{MatchBool-at_false}
 use Rattle.circuit.specs.Value.{input_count, value_at}
 use Rattle.circuit.specs.Search.{IsLeastAfter, NoneAfter}
 use Rattle.circuit.proofs.Settling.{length-settled, settled_stays, some_left}
-use Rattle.circuit.proofs.Found.{at_root, filled, none_settled, none_unsupported, second_choice}
+use Rattle.circuit.proofs.Found.{at_root, filled, none_settled, none_unneeded, second_choice, support_after}
 use Rattle.circuit.proofs.search.Search.+search.Goals as goal
 
 pub choose-settle-requires-clause-kept : goal.choose-settle-requires-clause-kept
@@ -40,15 +40,29 @@ decide-returns-in-Some-false t c =
     let value : c.in-Some-false.field-0 ≡ false = search rules in
     (none_settled gates root chosen (at_root gates root chosen c.args.table.now None (Some false) c.requires.table c.requires.question.within (c.in-Some-false.is ∙ ap (λ v. Some v) value)), refl)
 
-pub split-returns-then-not-self-len : goal.split-returns-then-not-self-len
-split-returns-then-not-self-len t c =
+pub split-returns-then-not-self-number : goal.split-returns-then-not-self-number
+split-returns-then-not-self-number t c =
     let gates = c.args.self.now.gates.now in
     let root = c.args.self.now.root in
     let chosen = c.args.chosen.now.items in
+    let support = c.args.self.now.support.now in
     let none = MatchBool-at_false (IsLeastAfter gates root (chosen ++ false ∷ []) c.choose.new.chosen.items) (NoneAfter gates root (chosen ++ false ∷ []) × (c.choose.new.chosen.items ≡ chosen)) c.if-branch.false c.in_ok-choose.ensures in
-    let long : c.len.result ≡ length c.choose.new.chosen.items = search rules in
-    let number : c.len.result ≡ length chosen = long ∙ ap length none.1 in
-    (none_unsupported gates root c.args.self.now.support.now chosen c.requires.question.support (ap (value_at c.args.self.now.support.now) (sym number) ∙ c.if-not-self-len.true) c.requires.few none.0, none.1)
+    let long : c.len-number.result ≡ length c.choose.new.chosen.items = search rules in
+    none_unneeded gates root c.len-number.result support chosen c.choose.new.chosen.items (support_after gates root support chosen c.requires.question.support) long c.if-not-self-number.true c.requires.few none.0 none.1
+
+pub split-support-requires-clause-count : goal.split-support-requires-clause-count
+split-support-requires-clause-count t c = ap length c.requires.table ∙ length-settled c.args.self.now.gates.now c.args.chosen.now.items
+
+pub split-returns-then-not-index : goal.split-returns-then-not-index
+split-returns-then-not-index t c =
+    let gates = c.args.self.now.gates.now in
+    let root = c.args.self.now.root in
+    let chosen = c.args.chosen.now.items in
+    let support = c.in_ok-support.support.items in
+    let none = MatchBool-at_false (IsLeastAfter gates root (chosen ++ false ∷ []) c.choose.new.chosen.items) (NoneAfter gates root (chosen ++ false ∷ []) × (c.choose.new.chosen.items ≡ chosen)) c.if-branch.false c.in_ok-choose.ensures in
+    let long : c.len-number.result ≡ length c.choose.new.chosen.items = search rules in
+    let off : value_at support c.len-number.result ≡ false = search rules in
+    none_unneeded gates root c.len-number.result support chosen c.choose.new.chosen.items (c.in_ok-support.ensures chosen c.requires.table) long off c.requires.few none.0 none.1
 
 pub split-returns : goal.split-returns
 split-returns t c =

@@ -1,0 +1,5 @@
+pub mod Question
+pub mod Solution
+pub mod Scenario
+pub mod Bits
+pub mod Meaning

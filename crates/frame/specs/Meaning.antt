@@ -1,0 +1,52 @@
+-- What the nodes of a circuit over the bits of a packet say of the packet. No public call is stated by this.
+use Rattle.std.specs.Prelude.{◌≡◌, ℕ, ◌<◌, not, Bool, true, false, List, length, map}
+use Rattle.circuit.specs.declared.gate.Gate.{Gate}
+use Rattle.circuit.specs.Value.{AreNodes, Extends, input_count, value}
+use Rattle.ios_acl.specs.declared.entry.Entry.{Entry}
+use Rattle.ios_acl.specs.declared.entry.Verdict.{Verdict}
+use Rattle.ios_acl.specs.declared.entry.Verdict.TheVariants as verdict
+use Rattle.ios_acl.specs.declared.packet.Packet.{Packet}
+use Rattle.ios_acl.specs.Decision.{decision}
+use Rattle.ios_config.specs.Request.{IsRequest, packet_fields}
+use Rattle.frame.specs.Bits.{IsPacketOf}
+use Rattle.frame.specs.Scenario.{IsNotBehind, request_of}
+
+-- the circuit has the bits of a packet as its inputs, in order
+pub record HasBits (gates : List Gate) (bits : List ℕ) : Type 0 where
+  pub nodes : AreNodes gates bits
+  pub count : length bits ≡ 126
+  pub inputs : input_count gates ≡ 126
+  pub values : (inputs : List Bool) → length inputs ≡ 126 → map (value gates inputs) bits ≡ inputs
+
+-- the node is true for the packets that pass the test
+pub record Means (gates : List Gate) (node : ℕ) (meaning : Packet → Bool) : Type 0 where
+  pub within : node < length gates
+  pub value : (inputs : List Bool) (packet : Packet) → IsPacketOf inputs packet → value gates inputs node ≡ meaning packet
+
+-- a circuit with more nodes, among them one that means the test
+pub record Adds (old new : List Gate) (node : ℕ) (meaning : Packet → Bool) : Type 0 where
+  pub older : Extends old new
+  pub means : Means new node meaning
+
+-- a packet within the bounds of its fields that passes the test
+pub record HoldsFor (meaning : Packet → Bool) (packet : Packet) : Type 0 where
+  pub is_request : IsRequest (request_of packet)
+  pub passes : meaning packet ≡ true
+
+-- the first of these packets in the order of their fields
+pub record IsLeastPacket (meaning : Packet → Bool) (packet : Packet) : Type 0 where
+  pub holds : HoldsFor meaning packet
+  pub least : (other : Packet) → HoldsFor meaning other → IsNotBehind (map (request_of packet) packet_fields) (map (request_of other) packet_fields)
+
+abbrev pub is_permit : Verdict → Bool
+is_permit verdict.Permit = true
+is_permit verdict.Deny = false
+
+-- whether the list permits the packet
+abbrev pub permits : List Entry → Packet → Bool
+permits entries packet = is_permit (decision entries packet).0
+
+-- whether the list decides so
+abbrev pub decides : List Entry → Verdict → Packet → Bool
+decides entries verdict.Permit packet = permits entries packet
+decides entries verdict.Deny packet = not (permits entries packet)

@@ -1,0 +1,61 @@
+-- The first scenario of a question: the one of the least signature, and of these the one of the least values.
+use Rattle.std.specs.Prelude.{◌≡◌, ◌⊎◌, ◌==◌, ◌&&◌, not, ℕ, ◌<◌, Bool, true, false, List, [], ◌∷◌, map, Option, Some, None}
+use Rattle.std.specs.List.{filter}
+use Rattle.circuit.specs.Least.{LexLe}
+use Rattle.ios_acl.specs.declared.packet.Packet.{Packet}
+use Rattle.ios_config.specs.declared.request.Field.TheVariants as field
+use Rattle.ios_config.specs.Request.{Request, fields, place}
+use Rattle.frame.specs.declared.question.Test.{Test}
+use Rattle.frame.specs.Question.{Question, passes}
+use Rattle.frame.specs.Solution.{Solves}
+
+abbrev pub same_wildcard : Option ℕ → Option ℕ → Bool
+same_wildcard None None = true
+same_wildcard (Some w) (Some v) = w == v
+same_wildcard None (Some v) = false
+same_wildcard (Some w) None = false
+
+abbrev pub same_test : Test → Test → Bool
+same_test a b = (place a.field == place b.field) && (a.value == b.value) && same_wildcard a.wildcard b.wildcard
+
+-- the tests that are shown: one that is written twice is shown once, in its first place
+abbrev pub visible : List Test → List Test
+visible [] = []
+visible (test ∷ tests) = test ∷ filter (λ other. not (same_test test other)) (visible tests)
+
+-- which of the visible tests the request passes
+abbrev pub signature : Question → Request → List Bool
+signature question request = map (passes request) (visible question.tests)
+
+-- the values of the fields in order
+abbrev pub values : Request → List ℕ
+values request = map request fields
+
+-- in the dictionary of lists of numbers, the first list is not behind the second
+abbrev pub IsNotBehind : List ℕ → List ℕ → Type 0
+IsNotBehind [] ys = Unit {0}
+IsNotBehind (x ∷ xs) [] = ⊥
+IsNotBehind (x ∷ xs) (y ∷ ys) = (x < y) ⊎ ((x ≡ y) × IsNotBehind xs ys)
+
+pub record IsFirst (question : Question) (request : Request) : Type 0 where
+  pub solves : Solves question request
+  pub least_signature : (other : Request) → Solves question other → LexLe (signature question request) (signature question other)
+  pub least_values : (other : Request) → Solves question other → signature question other ≡ signature question request → IsNotBehind (values request) (values other)
+
+-- the request of a packet whose other fields are 0
+abbrev pub request_of : Packet → Request
+request_of packet field.SrcIn = packet.src
+request_of packet field.DstIn = packet.dst
+request_of packet field.SportIn = packet.sport
+request_of packet field.DportIn = packet.dport
+request_of packet field.Proto = packet.proto
+request_of packet field.Flags = packet.flags
+request_of packet field.IcmpType = packet.icmp_type
+request_of packet field.IcmpCode = packet.icmp_code
+request_of packet field.Entry = 0
+request_of packet field.SrcOut = 0
+request_of packet field.DstOut = 0
+request_of packet field.SportOut = 0
+request_of packet field.DportOut = 0
+request_of packet field.NextHop = 0
+request_of packet field.Exit = 0

@@ -1,0 +1,18 @@
+//! Scenarios: the first request that answers a question about an access list.
+//!
+//! `first_packet` gives the packet of the first scenario, or says that there is none; `visible` gives the tests that a
+//! scenario is shown with. A question is a circuit over the bits of a packet, and `circuit::least` finds its least bits.
+//! `session` writes scenarios, and `margrave_cli` answers scripts with them.
+#![tactic(auto)]
+
+mod bits;
+mod decision;
+mod matching;
+mod packet_circuit;
+mod question;
+
+pub use question::{Test, first_packet, visible};
+pub use std::alloc::AllocError as NoMemory;
+
+#[cfg(test)]
+mod tests;

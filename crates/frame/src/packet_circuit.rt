@@ -1,0 +1,110 @@
+ghost use Rattle.std.specs.Prelude.{◌≡◌, ◌<◌, ◌≤◌, ◌&&◌, nat_le, not, Bool, true, List, length, map, IfOk, IfSome, IfNone};
+ghost use Rattle.std.specs.List.{list_any, list_all};
+ghost use Rattle.ios_acl.specs.declared.packet.Packet.{Packet};
+ghost use Rattle.circuit.specs.Number.{agrees};
+ghost use Rattle.circuit.specs.Value.{AreNodes, Extends, value as node_value};
+ghost use Rattle.frame.specs.Meaning.{Adds, Means, IsLeastPacket, HoldsFor};
+ghost use Rattle.frame.specs.Scenario.{request_of};
+
+use crate::NoMemory;
+use crate::bits::{field_bits, packet_of};
+use circuit::{Circuit, Node, least};
+use ios_acl::Packet;
+use ios_config::Field;
+use std::alloc::Global;
+use std::marker::Model;
+
+/// A circuit whose inputs are the bits of a packet.
+#[derive(Drop)]
+pub(crate) struct PacketCircuit {
+    circuit: Circuit,
+    bits: Vec<Node>,
+}
+
+impl Model for PacketCircuit {
+    ghost use Rattle.std.specs.Prelude.{List};
+    ghost use Rattle.circuit.specs.declared.gate.Gate.{Gate};
+    ghost use Rattle.frame.specs.Meaning.{HasBits};
+
+    ghost Value = { List Gate };
+
+    ghost view = { λ c. c.circuit };
+
+    ghost invariant = { λ c. HasBits c.circuit c.bits.items };
+}
+
+impl PacketCircuit {
+    /// A circuit of the inputs alone.
+    pub(crate) fn new(alloc: Global) -> Result<PacketCircuit, NoMemory> {
+        let mut circuit = Circuit::new(alloc);
+        let mut bits = Vec::new(alloc);
+        for _ in 0..126usize {
+            bits.push(circuit.input()?)?;
+        }
+        Ok(PacketCircuit { circuit, bits })
+    }
+
+    /// Adds a node that is true where the field agrees with the value on each bit that is 0 in the wildcard.
+    pub(crate) fn masked(
+        &mut self,
+        field: Field,
+        value: u32,
+        wildcard: u32,
+    ) -> Result<Node, NoMemory>
+        ensures { IfOk result (λ node. Adds self.old self.new node (λ packet. agrees (request_of packet field) value wildcard)) }
+    {
+        let bits = field_bits(self.bits.as_slice(), field);
+        self.circuit
+            .masked(bits, u128::from(value), u128::from(wildcard))
+    }
+
+    /// Adds a node that is true where the field is from `low` to `high`, both included.
+    pub(crate) fn range(&mut self, field: Field, low: u16, high: u16) -> Result<Node, NoMemory>
+        ensures { IfOk result (λ node. Adds self.old self.new node (λ packet. nat_le low (request_of packet field) && nat_le (request_of packet field) high)) }
+    {
+        let bits = field_bits(self.bits.as_slice(), field);
+        self.circuit.range(bits, u128::from(low), u128::from(high))
+    }
+
+    /// Adds a node that is true where all of the parts are.
+    pub(crate) fn and(&mut self, parts: &[Node]) -> Result<Node, NoMemory>
+        requires { AreNodes self.old parts.now }
+        ensures node { IfOk result (λ node. node < length self.new) }
+        ensures older { Extends self.old self.new }
+        ensures value { IfOk result (λ node. (inputs : List Bool) → node_value self.new inputs node ≡ list_all (node_value self.old inputs) parts.now) }
+    {
+        self.circuit.and(parts)
+    }
+
+    /// Adds a node that is true where one of the parts is.
+    pub(crate) fn or(&mut self, parts: &[Node]) -> Result<Node, NoMemory>
+        requires { AreNodes self.old parts.now }
+        ensures node { IfOk result (λ node. node < length self.new) }
+        ensures older { Extends self.old self.new }
+        ensures value { IfOk result (λ node. (inputs : List Bool) → node_value self.new inputs node ≡ list_any (node_value self.old inputs) parts.now) }
+    {
+        self.circuit.or(parts)
+    }
+
+    /// Adds a node that is true where the part is false.
+    pub(crate) fn not(&mut self, part: Node) -> Result<Node, NoMemory>
+        requires { part < length self.old }
+        ensures node { IfOk result (λ node. node < length self.new) }
+        ensures older { Extends self.old self.new }
+        ensures value { IfOk result (λ node. (inputs : List Bool) → node_value self.new inputs node ≡ not (node_value self.old inputs part)) }
+    {
+        self.circuit.not(part)
+    }
+
+    /// The packet of the least bits that make the root true; none where no packet does.
+    pub(crate) fn first(&self, alloc: Global, root: Node) -> Result<Option<Packet>, NoMemory>
+        requires { root < length self.now }
+        ensures found { IfOk result (λ answer. IfSome answer (λ packet. (meaning : Packet → Bool) → Means self.now root meaning → IsLeastPacket meaning packet)) }
+        ensures none { IfOk result (λ answer. IfNone answer ((meaning : Packet → Bool) (packet : Packet) → Means self.now root meaning → HoldsFor meaning packet → ⊥)) }
+    {
+        match least(alloc, &self.circuit, root)? {
+            Some(inputs) => Ok(Some(packet_of(inputs.as_slice()))),
+            None => Ok(None),
+        }
+    }
+}

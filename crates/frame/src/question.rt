@@ -1,0 +1,99 @@
+ghost use Rattle.std.specs.Prelude.{◌≡◌, ◌<◌, Bool, length, IfOk, IfSome, IfNone, ◌&&◌};
+ghost use Rattle.std.specs.List.{list_all, list_any, AllByRecursion};
+ghost use Rattle.ios_acl.specs.declared.packet.Packet.{Packet};
+ghost use Rattle.ios_config.specs.Request.{Request, place};
+ghost use Rattle.frame.specs.Meaning.{Adds, Means};
+ghost use Rattle.frame.specs.Question.{IsOfPacket, asked, passes};
+ghost use Rattle.frame.specs.Solution.{Solves};
+ghost use Rattle.frame.specs.Scenario.{IsFirst, request_of, same_test};
+ghost use Rattle.frame.specs.Scenario as specs;
+
+use crate::NoMemory;
+use crate::decision::decided;
+use crate::packet_circuit::PacketCircuit;
+use circuit::Node;
+use ios_acl::{Entry, Packet, Verdict};
+use ios_config::Field;
+use std::alloc::Global;
+
+/// A test of a field: its number is the value, or differs from it only in bits that are 1 in the wildcard.
+#[derive(Clone, Copy, Debug, PartialEq, Eq)]
+pub struct Test {
+    pub field: Field,
+    pub value: u32,
+    pub wildcard: Option<u32>,
+}
+
+/// The tests that are shown: one that is written twice is shown once, in its first place.
+pub fn visible(alloc: Global, tests: &[Test]) -> Result<Vec<Test>, NoMemory>
+    ensures { IfOk result (λ shown. shown.items ≡ specs.visible tests.now) }
+{
+    let mut shown = Vec::new(alloc);
+    for test in tests {
+        if !is_shown(shown.as_slice(), test) {
+            shown.push(*test)?;
+        }
+    }
+    Ok(shown)
+}
+
+/// Whether the test is among those that are shown.
+fn is_shown(shown: &[Test], test: &Test) -> bool
+    ensures { result ≡ list_any (λ other. same_test other test.now) shown.now }
+{
+    for other in shown {
+        if is_same(other, test) {
+            return true;
+        }
+    }
+    false
+}
+
+fn is_same(a: &Test, b: &Test) -> bool
+    ensures { result ≡ same_test a.now b.now }
+{
+    a.field == b.field && a.value == b.value && a.wildcard == b.wildcard
+}
+
+/// The packet of the first scenario: of the requests that the entries decide so and that pass the tests, the one of the
+/// least signature and then of the least values. The fields that are not the packet's are 0 in it. None where no
+/// request does.
+pub fn first_packet(
+    alloc: Global,
+    entries: &[Entry],
+    verdict: Verdict,
+    tests: &[Test],
+) -> Result<Option<Packet>, NoMemory>
+    requires { AllByRecursion IsOfPacket tests.now }
+    ensures found { IfOk result (λ answer. IfSome answer (λ packet. IsFirst (asked entries.now verdict tests.now) (request_of packet))) }
+    ensures none { IfOk result (λ answer. IfNone answer ((request : Request) → Solves (asked entries.now verdict tests.now) request → ⊥)) }
+{
+    let mut circuit = PacketCircuit::new(alloc)?;
+    let decided = decided(&mut circuit, entries, verdict)?;
+    let root = tested(&mut circuit, decided, tests)?;
+    circuit.first(alloc, root)
+}
+
+/// Adds a node that is true where the other node is and the packet passes the tests.
+fn tested(circuit: &mut PacketCircuit, other: Node, tests: &[Test]) -> Result<Node, NoMemory>
+    requires { other < length circuit.old }
+    ensures { IfOk result (λ node. (meaning : Packet → Bool) → Means circuit.old other meaning
+        → Adds circuit.old circuit.new node (λ packet. meaning packet && list_all (passes (request_of packet)) tests.now)) }
+{
+    let mut node = other;
+    for test in tests {
+        let passed = passed(circuit, test)?;
+        node = circuit.and(&[node, passed])?;
+    }
+    Ok(node)
+}
+
+/// Adds a node that is true where the packet passes the test.
+fn passed(circuit: &mut PacketCircuit, test: &Test) -> Result<Node, NoMemory>
+    ensures { IfOk result (λ node. Adds circuit.old circuit.new node (λ packet. passes (request_of packet) test.now)) }
+{
+    match test.wildcard {
+        None => circuit.masked(test.field, test.value, 0),
+        Some(wildcard) => circuit.masked(test.field, test.value, wildcard),
+    }
+}

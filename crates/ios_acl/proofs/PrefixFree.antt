@@ -1,0 +1,45 @@
+-- The parts of a line from whose words nothing goes on.
+use Rattle.std.proofs.Common.{◌≡◌, ℕ, Bool, List, [], ◌∷◌, ◌++◌, Option, subst, sym, ap, ◌∙◌}
+use Rattle.ios_acl.specs.Phrases.{Words}
+use Rattle.ios_acl.specs.Grammar.{IsVerdict, IsPlace, IsProto, ArePorts}
+use Rattle.ios_acl.specs.Parts.{SomeAddress, SomePlace, SomeProto, SomePort, SomePortFrom, SomePorts, SomePortsOf}
+use Rattle.ios_acl.specs.declared.entry.Verdict.{Verdict}
+use Rattle.ios_acl.proofs.Stopping.{IsPrefixFree}
+use Rattle.ios_acl.proofs.OneCut.{prefix_free_from_one}
+use Rattle.ios_acl.proofs.OnePart.{place_is_one, proto_is_one, ports_are_one}
+use Rattle.ios_acl.proofs.OneEnd.{tcp_is_one}
+use Rattle.ios_acl.proofs.OneEntry.{verdict_is_one}
+
+-- single words are such a part
+pub single_word_prefix_free : (Kind : Words → Type 0) → ((words : Words) → Kind words → (word : List ℕ) × (words ≡ word ∷ [])) → IsPrefixFree Kind
+single_word_prefix_free Kind single words more first second =
+    let one = single words first in
+    let longer = single (words ++ more) second in
+    let same : ◌≡◌ {A = Words} (one.0 ∷ more) (longer.0 ∷ []) = sym (ap (λ (front : Words). front ++ more) one.1) ∙ longer.1 in
+    cc
+
+pub address_prefix_free : (b : Bool) → IsPrefixFree (SomeAddress b)
+address_prefix_free b = single_word_prefix_free (SomeAddress b) (λ words is. (is.1.0, is.1.1))
+
+pub port_prefix_free : (tcp b : Bool) → IsPrefixFree (SomePort tcp b)
+port_prefix_free tcp b = single_word_prefix_free (SomePort tcp b) (λ words is. (is.1.0, is.1.1))
+
+pub port_from_prefix_free : (tcp : Bool) (first : ℕ) (b : Bool) → IsPrefixFree (SomePortFrom tcp first b)
+port_from_prefix_free tcp first b = single_word_prefix_free (SomePortFrom tcp first b) (λ words is. (is.1.0, is.1.1))
+
+pub verdict_prefix_free : IsPrefixFree (λ words. (v : Verdict) × IsVerdict v words)
+verdict_prefix_free = prefix_free_from_one IsVerdict verdict_is_one
+
+pub place_prefix_free : (b : Bool) → IsPrefixFree (SomePlace b)
+place_prefix_free b = prefix_free_from_one IsPlace place_is_one
+
+pub proto_prefix_free : (b : Bool) → IsPrefixFree (SomeProto b)
+proto_prefix_free b = prefix_free_from_one IsProto proto_is_one
+
+pub ports_prefix_free : (tcp b : Bool) → IsPrefixFree (SomePorts tcp b)
+ports_prefix_free tcp b = prefix_free_from_one (ArePorts b tcp) (ports_are_one b tcp)
+
+pub ports_of_prefix_free : (proto : Option ℕ) (b : Bool) → IsPrefixFree (SomePortsOf proto b)
+ports_of_prefix_free proto b words more first second =
+    let same = tcp_is_one second.0 first.0 (sym second.1 ∙ first.1) in
+    ports_prefix_free first.0 b words more first.2 (subst (λ (tcp : Bool). SomePorts tcp b (words ++ more)) same second.2)

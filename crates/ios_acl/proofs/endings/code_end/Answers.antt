@@ -1,0 +1,30 @@
+use Rattle.std.proofs.Common.{◌≡◌, ◌∷◌, sym, ◌∙◌, rules}
+use Rattle.ios_acl.specs.Stops.{IsStop}
+use Rattle.ios_acl.specs.Parts.{SomeCodeEnd}
+use Rattle.ios_acl.proofs.LastWords.{one_code, stop_log_code, stop_behind_code, stop_no_code}
+use Rattle.ios_acl.proofs.endings.code_end.Goals as goal
+
+pub returns-in_err-end-clause-stop : goal.returns-in_err-end-clause-stop
+returns-in_err-end-clause-stop c =
+    let stop : IsStop SomeCodeEnd c.args.words.now c.in_err-end.field-0.0 =
+    stop_log_code c.args.words.now c.in_err-end.field-0.0 (sym c.is_at_end.ensures ∙ c.if-is_at_end.true) c.in_err-end.ensures.stop in
+    search rules
+
+pub returns-in_default-number-clause-stop : goal.returns-in_default-number-clause-stop
+returns-in_default-number-clause-stop c =
+    let whole : c.args.words.now ≡ c.in-Some.first.now ∷ c.in-Some.rest.now = search rules in
+    stop_no_code c.args.words.now c.stop_before.result c.in-Some.first.now c.in-Some.rest.now whole (sym c.is_at_end.ensures ∙ c.if-is_at_end.false)
+    (rw c.bytes.ensures at c.in_default-number.ensures.none) c.stop_before.ensures.due c.stop_before.ensures.left
+
+pub returns-in_err-end-2-clause-stop : goal.returns-in_err-end-2-clause-stop
+returns-in_err-end-2-clause-stop c =
+    let whole : c.args.words.now ≡ c.in-Some.first.now ∷ c.in-Some.rest.now = search rules in
+    let stop : IsStop SomeCodeEnd c.args.words.now c.in_err-end-2.field-0.0 =
+    stop_behind_code c.in-Some.first.now c.in-Some-number.code c.args.words.now c.in-Some.rest.now c.in_err-end-2.field-0.0 whole
+    (rw c.bytes.ensures at c.in-Some-number.ensures.found) c.in_err-end-2.ensures.stop in
+    search rules
+
+pub returns-clause-read : goal.returns-clause-read
+returns-clause-read c =
+    let whole : c.args.words.now ≡ c.in-Some.first.now ∷ c.in-Some.rest.now = search rules in
+    rw whole (one_code c.in-Some.first.now c.in-Some-number.code c.in-Some.rest.now (rw c.bytes.ensures at c.in-Some-number.ensures.found) c.in_ok-end-2.ensures.read)

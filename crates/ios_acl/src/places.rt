@@ -1,0 +1,90 @@
+ghost use Rattle.std.specs.Prelude.{◌≡◌, false, IfOk, IfErr};
+ghost use Rattle.ios_acl.specs.Grammar.{IsPlace};
+ghost use Rattle.ios_acl.specs.Stops.{BeginsWith, expected_of, IsStop};
+ghost use Rattle.ios_acl.specs.Parts.{IsAddressOf, IsSourceEnd, IsWildcardEnd, SomeAddress, SomePlace, SomeSourceEnd, SomeWildcardEnd};
+
+use crate::endings::end;
+use crate::stop::{Due, Stop, is, stop_before};
+use ios_lex::{Word, address};
+
+/// The address that the words begin with, and the words behind it.
+fn address_next(words: &[Word]) -> Result<(u32, &[Word]), Stop>
+    ensures read { IfOk result (λ found. BeginsWith (IsAddressOf found.0) words.now found.1.now) }
+    ensures stop { IfErr result (IsStop SomeAddress words.now) }
+    ensures part { IfErr result (λ stop. (expected_of stop.due).whole ≡ false) }
+{
+    let Some((first, rest)) = words.split_first() else {
+        return Err(stop_before(words, Due::Address));
+    };
+    let Some(found) = address(first.bytes()) else {
+        return Err(stop_before(words, Due::Address));
+    };
+    Ok((found, rest))
+}
+
+/// The address and the wildcard that the words begin with, as `any`, `host A` or `A W`, and the words behind them.
+pub fn place(words: &[Word]) -> Result<((u32, u32), &[Word]), Stop>
+    ensures read { IfOk result (λ found. BeginsWith (IsPlace found.0) words.now found.1.now) }
+    ensures stop { IfErr result (IsStop SomePlace words.now) }
+    ensures part { IfErr result (λ stop. (expected_of stop.due).whole ≡ false) }
+{
+    let Some((first, rest)) = words.split_first() else {
+        return Err(stop_before(words, Due::Address));
+    };
+    if is(first, "any") {
+        return Ok(((0, u32::MAX), rest));
+    }
+    if is(first, "host") {
+        let (host, rest) = address_next(rest)?;
+        return Ok(((host, 0), rest));
+    }
+    let Some(some) = address(first.bytes()) else {
+        return Err(stop_before(words, Due::Address));
+    };
+    let (wildcard, rest) = address_next(rest)?;
+    Ok(((some, wildcard), rest))
+}
+
+/// What the words of a standard entry say behind its verdict: the address and the wildcard of its source, as `any`,
+/// `host A`, `A` or `A W`, and then perhaps `log`.
+pub fn source_end(words: &[Word]) -> Result<(u32, u32), Stop>
+    ensures read { IfOk result (λ source. IsSourceEnd source words.now) }
+    ensures stop { IfErr result (IsStop SomeSourceEnd words.now) }
+{
+    let Some((first, rest)) = words.split_first() else {
+        return Err(stop_before(words, Due::Address));
+    };
+    if is(first, "any") {
+        end(rest, false)?;
+        return Ok((0, u32::MAX));
+    }
+    if is(first, "host") {
+        let (host, rest) = address_next(rest)?;
+        end(rest, false)?;
+        return Ok((host, 0));
+    }
+    let Some(some) = address(first.bytes()) else {
+        return Err(stop_before(words, Due::Address));
+    };
+    let wildcard = wildcard_end(rest)?;
+    Ok((some, wildcard))
+}
+
+/// The wildcard behind an address, 0 where it is left out, and then perhaps `log`.
+fn wildcard_end(words: &[Word]) -> Result<u32, Stop>
+    ensures read { IfOk result (λ wildcard. IsWildcardEnd wildcard words.now) }
+    ensures stop { IfErr result (IsStop SomeWildcardEnd words.now) }
+{
+    let Some((first, rest)) = words.split_first() else {
+        return Ok(0);
+    };
+    if is(first, "log") {
+        end(words, false)?;
+        return Ok(0);
+    }
+    let Some(wildcard) = address(first.bytes()) else {
+        return Err(stop_before(words, Due::Wildcard));
+    };
+    end(rest, false)?;
+    Ok(wildcard)
+}

@@ -1,0 +1,332 @@
+ghost use Rattle.std.specs.Prelude.{◌≡◌, ◌↔◌, ◌∷◌, ℕ, [], ◌++◌, not, IfOk, IsTrue};
+ghost use Rattle.std.specs.Fmt.{decimal};
+ghost use Rattle.std.specs.List.{All};
+ghost use Rattle.ios_lex.specs.Decimal.{IsNumber};
+ghost use Rattle.ios_acl.specs.Block as specs;
+ghost use Rattle.ios_acl.specs.Grammar as grammar;
+ghost use Rattle.ios_acl.specs.Block.{greatest_list_number, IsBlock, IsBlockName, IsListNumber, IsNameByte};
+ghost use Rattle.ios_acl.specs.Spelling.{behind_blanks, dotted, entry_line, established_words, match_words, message_words, opening_line, place_words, ports_words, proto_word, range_words};
+
+use crate::access_list::Acl;
+use crate::entry::{Entry, Ports, Verdict};
+use ios_lex::number;
+use std::alloc::{AllocError, Global};
+
+/// The greatest number of a list.
+const GREATEST_LIST_NUMBER: u64 = 2699;
+
+/// Writes the list as a named block of a configuration, which is read as this list: a line `ip access-list`, the kind
+/// and the name, and an indented line for each entry, its number first.
+pub fn write_acl(alloc: Global, acl: &Acl) -> Result<Vec<u8>, AllocError>
+    requires name { IsBlockName acl.now.extended acl.now.name }
+    ensures block { IfOk result (λ text. IsBlock text.items acl.now) }
+{
+    let mut text = Vec::new(alloc);
+    let extended = acl.is_extended();
+    push_opening(&mut text, acl.name().bytes(), extended)?;
+    for entry in acl.entries() {
+        push_entry(alloc, &mut text, entry, extended)?;
+    }
+    Ok(text)
+}
+
+/// Whether a list of this name and kind can be written as a named block: the name is not empty, its bytes are from 33
+/// to 126 and no double quote, and it is no number of a list of the other kind.
+pub fn is_block_name(name: &[u8], extended: bool) -> bool
+    ensures { IsTrue result ↔ IsBlockName extended name.now }
+{
+    !name.is_empty() && are_name_bytes(name) && !is_other_number(name, extended)
+}
+
+fn are_name_bytes(name: &[u8]) -> bool
+    ensures { IsTrue result ↔ All IsNameByte name.now }
+{
+    for byte in name {
+        if !is_name_byte(*byte) {
+            return false;
+        }
+    }
+    true
+}
+
+fn is_name_byte(byte: u8) -> bool
+    ensures { IsTrue result ↔ IsNameByte byte }
+{
+    matches!(byte, 33..=126) && byte != b'"'
+}
+
+/// Whether the name is a number of a list of the other kind.
+fn is_other_number(name: &[u8], extended: bool) -> bool
+    ensures { IsTrue result ↔ ((n : ℕ) × IsNumber greatest_list_number name.now n × IsListNumber (not extended) n) }
+{
+    match number(name, GREATEST_LIST_NUMBER) {
+        Some(n) => is_list_number(n, !extended),
+        None => false,
+    }
+}
+
+/// Whether a list of this kind may have this number (Cisco IOS command references, `access-list`).
+fn is_list_number(n: u64, extended: bool) -> bool
+    ensures { IsTrue result ↔ IsListNumber extended n }
+{
+    if extended {
+        matches!(n, 100..=199 | 2000..=2699)
+    } else {
+        matches!(n, 1..=99 | 1300..=1999)
+    }
+}
+
+/// Writes the line that opens the block.
+fn push_opening(text: &mut Vec<u8>, name: &[u8], extended: bool) -> Result<(), AllocError>
+    ensures { IfOk result (λ _. text.new.items ≡ text.old.items ++ opening_line extended name.now) }
+{
+    text.extend_from_slice(b"ip")?;
+    push_word(text, b"access-list")?;
+    push_word(text, kind_word(extended))?;
+    push_word(text, name)?;
+    text.push(b'\n')?;
+    Ok(())
+}
+
+fn kind_word(extended: bool) -> &'static [u8]
+    ensures { result.now ≡ specs.kind_word extended }
+{
+    if extended { b"extended" } else { b"standard" }
+}
+
+/// Writes the line of an entry of a list of this kind.
+fn push_entry(
+    alloc: Global,
+    text: &mut Vec<u8>,
+    entry: &Entry,
+    extended: bool,
+) -> Result<(), AllocError>
+    ensures { IfOk result (λ _. text.new.items ≡ text.old.items ++ entry_line extended entry.now) }
+{
+    push_number(alloc, text, u64::from(entry.number))?;
+    push_word(text, verdict_word(entry.verdict))?;
+    push_match(alloc, text, entry, extended)?;
+    text.push(b'\n')?;
+    Ok(())
+}
+
+fn verdict_word(verdict: Verdict) -> &'static [u8]
+    ensures { result.now ≡ grammar.verdict_word verdict }
+{
+    match verdict {
+        Verdict::Permit => b"permit",
+        Verdict::Deny => b"deny",
+    }
+}
+
+/// Writes what the entry matches.
+fn push_match(
+    alloc: Global,
+    text: &mut Vec<u8>,
+    entry: &Entry,
+    extended: bool,
+) -> Result<(), AllocError>
+    ensures { IfOk result (λ _. text.new.items ≡ text.old.items ++ behind_blanks (match_words extended entry.now)) }
+{
+    if !extended {
+        return push_place(alloc, text, entry.src);
+    }
+    push_proto(alloc, text, entry.proto)?;
+    push_place(alloc, text, entry.src)?;
+    push_ports(alloc, text, entry.sport)?;
+    push_place(alloc, text, entry.dst)?;
+    push_ports(alloc, text, entry.dport)?;
+    push_message(alloc, text, entry.icmp)?;
+    push_established(text, entry.established)
+}
+
+/// Writes `host` and an address, `any`, or an address and a wildcard.
+fn push_place(alloc: Global, text: &mut Vec<u8>, place: (u32, u32)) -> Result<(), AllocError>
+    ensures { IfOk result (λ _. text.new.items ≡ text.old.items ++ behind_blanks (place_words place)) }
+{
+    if place.1 == 0 {
+        push_word(text, b"host")?;
+        return push_address(alloc, text, place.0);
+    }
+    if place.0 == 0 && place.1 == u32::MAX {
+        return push_word(text, b"any");
+    }
+    push_address(alloc, text, place.0)?;
+    push_address(alloc, text, place.1)
+}
+
+/// Writes `ip`, or the name or the number of a protocol.
+fn push_proto(alloc: Global, text: &mut Vec<u8>, proto: Option<u8>) -> Result<(), AllocError>
+    ensures { IfOk result (λ _. text.new.items ≡ text.old.items ++ behind_blanks (proto_word proto ∷ [])) }
+{
+    match proto {
+        None => push_word(text, b"ip"),
+        Some(1) => push_word(text, b"icmp"),
+        Some(6) => push_word(text, b"tcp"),
+        Some(17) => push_word(text, b"udp"),
+        Some(n) => push_number(alloc, text, u64::from(n)),
+    }
+}
+
+/// Writes a test of ports, or nothing where every port passes.
+fn push_ports(alloc: Global, text: &mut Vec<u8>, ports: Ports) -> Result<(), AllocError>
+    ensures { IfOk result (λ _. text.new.items ≡ text.old.items ++ behind_blanks (ports_words ports)) }
+{
+    match ports {
+        Ports::Any => Ok(()),
+        Ports::Within(low, high) => push_range(alloc, text, low, high),
+        Ports::Not(port) => {
+            push_word(text, b"neq")?;
+            push_number(alloc, text, u64::from(port))
+        }
+        Ports::Nothing => {
+            push_word(text, b"lt")?;
+            push_number(alloc, text, 0)
+        }
+    }
+}
+
+/// Writes a test of the ports from the first to the last.
+fn push_range(alloc: Global, text: &mut Vec<u8>, low: u16, high: u16) -> Result<(), AllocError>
+    ensures { IfOk result (λ _. text.new.items ≡ text.old.items ++ behind_blanks (range_words low high)) }
+{
+    if low == high {
+        push_word(text, b"eq")?;
+        return push_number(alloc, text, u64::from(low));
+    }
+    push_word(text, b"range")?;
+    push_number(alloc, text, u64::from(low))?;
+    push_number(alloc, text, u64::from(high))
+}
+
+/// Writes an ICMP type and perhaps a code, or nothing.
+fn push_message(
+    alloc: Global,
+    text: &mut Vec<u8>,
+    icmp: Option<(u8, Option<u8>)>,
+) -> Result<(), AllocError>
+    ensures { IfOk result (λ _. text.new.items ≡ text.old.items ++ behind_blanks (message_words icmp)) }
+{
+    let Some((kind, code)) = icmp else {
+        return Ok(());
+    };
+    push_number(alloc, text, u64::from(kind))?;
+    match code {
+        None => Ok(()),
+        Some(code) => push_number(alloc, text, u64::from(code)),
+    }
+}
+
+fn push_established(text: &mut Vec<u8>, established: bool) -> Result<(), AllocError>
+    ensures { IfOk result (λ _. text.new.items ≡ text.old.items ++ behind_blanks (established_words established)) }
+{
+    if established {
+        push_word(text, b"established")
+    } else {
+        Ok(())
+    }
+}
+
+/// Writes the four bytes of an address joined by dots.
+fn push_address(alloc: Global, text: &mut Vec<u8>, address: u32) -> Result<(), AllocError>
+    ensures { IfOk result (λ _. text.new.items ≡ text.old.items ++ behind_blanks (dotted address ∷ [])) }
+{
+    let first = address / 0x100_0000;
+    let second = address / 0x1_0000 % 256;
+    let third = address / 0x100 % 256;
+    let fourth = address % 256;
+    let word = format!(in alloc; "{first}.{second}.{third}.{fourth}")?;
+    push_word(text, word.as_bytes())
+}
+
+fn push_number(alloc: Global, text: &mut Vec<u8>, n: u64) -> Result<(), AllocError>
+    ensures { IfOk result (λ _. text.new.items ≡ text.old.items ++ behind_blanks (decimal n ∷ [])) }
+{
+    let word = format!(in alloc; "{n}")?;
+    push_word(text, word.as_bytes())
+}
+
+/// Writes the word behind a blank.
+fn push_word(text: &mut Vec<u8>, word: &[u8]) -> Result<(), AllocError>
+    ensures { IfOk result (λ _. text.new.items ≡ text.old.items ++ behind_blanks (word.now ∷ [])) }
+{
+    text.push(b' ')?;
+    text.extend_from_slice(word)
+}
+
+#[cfg(test)]
+mod tests {
+    use super::*;
+    use ios_lex::{Word, lines};
+    use std::test::Fail;
+
+    /// The list whose entries the indented lines of the text spell.
+    fn list_of(alloc: Global, name: &[u8], extended: bool, text: &[u8]) -> Result<Acl, Fail> {
+        let mut list = Acl::new(alloc, Word::of(alloc, name)?, extended);
+        let lines = lines(alloc, text)?;
+        for line in &lines {
+            if line.indented {
+                list.read_line(alloc, line.words.as_slice())?;
+            }
+        }
+        Ok(list)
+    }
+
+    const GIVEN: &str = "ip access-list extended EDGE
+ permit tcp 10.0.0.1 0.0.0.0 any eq www log
+ remark the rest of the site
+ deny udp 0.0.0.0 255.255.255.255 lt 0 10.20.0.0 0.0.255.255 gt 1023
+ 15 permit icmp any any port-unreachable
+ permit 6 any neq 22 host 10.0.0.255 range 20 21 established
+ permit icmp any any echo
+ deny gre any any
+ deny ip any any
+";
+
+    const WRITTEN: &str = "ip access-list extended EDGE
+ 10 permit tcp host 10.0.0.1 any eq 80
+ 15 permit icmp any any 3 3
+ 20 deny udp any lt 0 10.20.0.0 0.0.255.255 range 1024 65535
+ 30 permit tcp any neq 22 host 10.0.0.255 range 20 21 established
+ 40 permit icmp any any 8
+ 50 deny 47 any any
+ 60 deny ip any any
+";
+
+    #[test]
+    fn extended_list(rt: HostRuntime) -> Result<(), Fail> {
+        let alloc = rt.alloc();
+        let list = list_of(alloc, b"EDGE", true, GIVEN.as_bytes())?;
+        assert!(rt; is_block_name(list.name().bytes(), list.is_extended()));
+        let text = write_acl(alloc, &list)?;
+        assert_eq!(rt; text.as_slice(), WRITTEN.as_bytes());
+        let again = list_of(alloc, b"EDGE", true, text.as_slice())?;
+        assert!(rt; again.entries() == list.entries());
+        Ok(())
+    }
+
+    #[test]
+    fn standard_list(rt: HostRuntime) -> Result<(), Fail> {
+        let alloc = rt.alloc();
+        let given = b" permit 10.0.0.1\n deny 10.0.0.0 0.0.0.255\n permit any\n";
+        let list = list_of(alloc, b"1300", false, given)?;
+        assert!(rt; is_block_name(list.name().bytes(), list.is_extended()));
+        let text = write_acl(alloc, &list)?;
+        let written =
+            b"ip access-list standard 1300\n 10 permit host 10.0.0.1\n 20 deny 10.0.0.0 0.0.0.255\n 30 permit any\n";
+        assert_eq!(rt; text.as_slice(), written.as_slice());
+        let again = list_of(alloc, b"1300", false, text.as_slice())?;
+        assert!(rt; again.entries() == list.entries());
+        Ok(())
+    }
+
+    #[test]
+    fn block_names(rt: HostRuntime) {
+        assert!(rt; is_block_name(b"100", true));
+        assert!(rt; !is_block_name(b"100", false));
+        assert!(rt; !is_block_name(b"0099", true));
+        assert!(rt; is_block_name(b"2700", false));
+        assert!(rt; !is_block_name(b"two words", true));
+        assert!(rt; !is_block_name(b"", true));
+    }
+}

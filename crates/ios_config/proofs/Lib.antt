@@ -1,0 +1,14 @@
+pub mod ListNumbers
+pub mod Absence
+pub mod Places
+pub mod BlockEntries
+pub mod NumberedLines
+pub mod Heads
+pub mod Lines
+pub mod RawFronts
+pub mod Drafts
+pub mod OpenBanners
+pub mod Refusals
+pub mod LineOutcomes
+pub mod OneLine
+pub mod OneConfig

@@ -1,0 +1,11 @@
+use Rattle.ios_config.proofs.OneConfig.{routers_same, refusals_same, read_is_not_refused}
+use Rattle.ios_config.proofs.router.one_config.Goals as goal
+
+pub returns-clause-same_router : goal.returns-clause-same_router
+returns-clause-same_router c = routers_same
+
+pub returns-clause-same_refusal : goal.returns-clause-same_refusal
+returns-clause-same_refusal c = refusals_same
+
+pub returns-clause-not_both : goal.returns-clause-not_both
+returns-clause-not_both c = read_is_not_refused

@@ -1,0 +1,7 @@
+pub mod Request
+pub mod ListNames
+pub mod Router
+pub mod Line
+pub mod Reading
+pub mod Faults
+pub mod Taking

@@ -1,0 +1,11 @@
+use Rattle.std.proofs.Common.{◌≡◌, take}
+use Rattle.std.specs.Str.Parse.{AllDigits, digits_value}
+use Rattle.margrave_cli.specs.Literals.{capped}
+use Rattle.margrave_cli.proofs.literals.number.Given as goal
+
+-- the bytes so far are digits, and n is their number
+abbrev pub invariant-loop-digit : goal.invariant-loop-digit
+invariant-loop-digit l = record {
+  digits : AllDigits 10 (take l.digit-index l.word);
+  value : l.n ≡ capped (digits_value 10 (take l.digit-index l.word));
+}
