@@ -6,6 +6,7 @@ pub mod Numbers
 pub mod Comparison
 pub mod Pairs
 pub mod Settling
+pub mod Unsettled
 pub mod Depends
 pub mod Found
 pub mod Wildcard

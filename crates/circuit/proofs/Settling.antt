@@ -6,11 +6,11 @@ use Rattle.std.specs.List.{fold, AllZip, AllByRecursion, list_all, list_any}
 use Rattle.std.proofs.lemmas.List.{get_or_append_left, get_or_push, take_more, take-append-drop, length-take-le, length-replicate}
 use Rattle.std.proofs.lemmas.List.Sums.{fold-append, sum_by_more_le}
 use Rattle.std.proofs.lemmas.List.Folds.{fold_along}
-use Rattle.std.proofs.lemmas.List.Elements.{recursion_from_All, AllZip-get_or, length_all_zip}
+use Rattle.std.proofs.lemmas.List.Elements.{recursion_from_All}
 use Rattle.std.proofs.lemmas.Bool.{cases_lt, and_right, or_right}
 use Rattle.circuit.specs.declared.gate.Gate.{Gate}
 use Rattle.circuit.specs.declared.gate.Gate.TheVariants as gate
-use Rattle.circuit.specs.Value.{value_at, gate_value, values, value, parts_of, is_input, input_count, IsNumbered, IsCircuit}
+use Rattle.circuit.specs.Value.{value_at, gate_value, values, value, is_input, input_count, IsNumbered, IsCircuit}
 use Rattle.circuit.specs.Settled.{settled_at, settled_and, settled_or, settled_all, settled_any, settled_ite, settled_value, settled, StaysSettled}
 
 abbrev step : List Bool → List (Option Bool) → Gate → List (Option Bool)
@@ -30,7 +30,7 @@ pub settled_push : (gates : List Gate) (g : Gate) (chosen : List Bool) → settl
 unfolding settled
 settled_push gates g chosen = fold-append (step chosen) [] gates (g ∷ [])
 
-settled-append : (gates more : List Gate) (chosen : List Bool) → (rest : List (Option Bool)) × (settled (gates ++ more) chosen ≡ settled gates chosen ++ rest)
+pub settled-append : (gates more : List Gate) (chosen : List Bool) → (rest : List (Option Bool)) × (settled (gates ++ more) chosen ≡ settled gates chosen ++ rest)
 unfolding settled
 settled-append gates more chosen =
     let b = begins chosen (settled gates chosen) more in
@@ -341,31 +341,3 @@ some_left gates chosen node c h e =
       | inl lt ↦ lt
       | inr ge ↦ absurd (unknown (settled_at (settled gates chosen) node) (known_at (settled gates chosen) (all_known gates chosen c (omega arith)) node) e)
     ]
-
--- ---- for the loop over the gates: the gate at the place, with the table so far
-pub parts_before : (gates : List Gate) (i : ℕ) (g : Gate) (chosen : List Bool) (next : List (Option Bool)) → IsCircuit gates → i < length gates → g ≡ get_or gates i g → next ≡ settled (take i gates) chosen →
-    AllByRecursion (λ part. part < length next) (parts_of g)
-parts_before gates i g chosen next c h e n =
-    let m : length next ≡ length (take i gates) = ap length n ∙ length-settled (take i gates) chosen in
-    let over : AllByRecursion (λ part. part < length (take i gates)) (parts_of (get_or gates i g)) = (c i g h).parts in
-    let P : ℕ → Type 0 = λ k. AllByRecursion (λ part. part < k) (parts_of g) in
-    let Q : Gate → Type 0 = λ x. AllByRecursion (λ part. part < length (take i gates)) (parts_of x) in
-    subst P (sym m) (subst Q (sym e) over)
-
-pub next_settled : (gates : List Gate) (i : ℕ) (g : Gate) (chosen : List Bool) (next : List (Option Bool)) (o : Option Bool) → i < length gates → g ≡ get_or gates i g → next ≡ settled (take i gates) chosen → o ≡ settled_value chosen next g →
-    next ++ o ∷ [] ≡ settled (take (i + 1) gates) chosen
-next_settled gates i g chosen next o h e n v =
-    ap (λ p. next ++ p ∷ []) (v ∙ ap (λ t. settled_value chosen t g) n ∙ ap (λ x. settled_value chosen (settled (take i gates) chosen) x) e)
-    ∙ ap (λ t. t ++ settled_value chosen (settled (take i gates) chosen) (get_or gates i g) ∷ []) n
-    ∙ sym (settled_more gates i g chosen h)
-
-pub kept_value : (gates : List Gate) (i : ℕ) (g : Gate) (chosen : List Bool) (table next : List (Option Bool)) (v : Bool) (d : Option Bool) → i < length gates → g ≡ get_or gates i g → next ≡ settled (take i gates) chosen → AllZip StaysSettled table (settled gates chosen) → get_or table i d ≡ Some v →
-    Some v ≡ settled_value chosen next g
-kept_value gates i g chosen table next v d h e n z t =
-    let long = length_all_zip StaysSettled table (settled gates chosen) z in
-    let same = length-settled gates chosen in
-    let stays : StaysSettled (get_or table i d) (get_or (settled gates chosen) i d) = AllZip-get_or StaysSettled table (settled gates chosen) i d d z (omega arith) in
-    let P : Option Bool → Type 0 = λ o. StaysSettled o (get_or (settled gates chosen) i d) in
-    sym (subst P t stays) ∙ settled_entry gates i g chosen d h
-    ∙ ap (λ x. settled_value chosen (settled (take i gates) chosen) x) (sym e)
-    ∙ ap (λ os. settled_value chosen os g) (sym n)

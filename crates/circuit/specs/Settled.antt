@@ -1,6 +1,7 @@
 -- What values of the first inputs settle: the value that a node has whatever the other inputs are. None where they settle
 -- nothing. The search is stated by it, and no public call.
-use Rattle.std.specs.Prelude.{◌≡◌, ℕ, Bool, true, false, not, Option, Some, None, IfSome, List, [], ◌∷◌, ◌++◌, fold, slice_get, slice_index_or}
+use Rattle.std.specs.Prelude.{◌≡◌, ◌⊎◌, ◌<◌, ℕ, length, Bool, true, false, not, Option, Some, None, IfSome, List, [], ◌∷◌, ◌++◌, fold, slice_get, slice_index_or}
+use Rattle.std.specs.List.{AllByRecursion}
 use Rattle.std.specs.Option.{option_map}
 use Rattle.circuit.specs.declared.gate.Gate.{Gate}
 use Rattle.circuit.specs.declared.gate.Gate.TheVariants as gate
@@ -56,3 +57,18 @@ settled gates chosen = fold (λ so_far g. so_far ++ settled_value chosen so_far 
 -- what was settled is settled alike
 abbrev pub StaysSettled : Option Bool → Option Bool → Type 0
 StaysSettled old new = IfSome old (λ v. new ≡ Some v)
+
+abbrev pub IsAmong : ℕ → List ℕ → Type 0
+IsAmong place [] = ⊥
+IsAmong place (first ∷ rest) = (place ≡ first) ⊎ IsAmong place rest
+
+-- each number is below those behind it
+abbrev pub IsRising : List ℕ → Type 0
+IsRising [] = Unit {0}
+IsRising (first ∷ rest) = AllByRecursion (λ later. first < later) rest × IsRising rest
+
+-- places of the table in order, and among them all of which nothing is settled
+pub record HasUnsettled (table : List (Option Bool)) (places : List ℕ) : Type 0 where
+  pub within : AllByRecursion (λ place. place < length table) places
+  pub rising : IsRising places
+  pub complete : (place : ℕ) → place < length table → settled_at table place ≡ None → IsAmong place places

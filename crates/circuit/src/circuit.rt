@@ -121,6 +121,8 @@ impl Circuit {
         requires nodes { AreNodes self.old bits.now }
         requires few { length bits.now ≤ 128 }
         ensures node { IfOk result (λ node. node ≡ length self.old + 2) }
+        ensures last { IfOk result (λ node. length self.new ≡ node + 1) }
+        ensures inputs { OnOk result (input_count self.new ≡ input_count self.old) }
         ensures circuit { OnOk result (self.new ≡ with_masked self.old bits.now value wildcard) }
         ensures value { IfOk result (λ node. (inputs : List Bool) → node_value self.new inputs node ≡ agrees (number (map (node_value self.old inputs) bits.now)) value wildcard) }
         ensures older { Extends self.old self.new }

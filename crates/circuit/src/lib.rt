@@ -9,14 +9,17 @@
 mod circuit;
 mod equal;
 mod gate;
+mod laws;
 mod masked;
 mod range;
 mod search;
 mod settled;
 mod support;
+mod table;
 
 pub use circuit::Circuit;
 pub use gate::{Gate, Node, Parts};
+pub use laws::gates_are_tests;
 pub use search::least;
 pub use std::alloc::AllocError as NoMemory;
 

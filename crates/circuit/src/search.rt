@@ -7,8 +7,8 @@ ghost use Rattle.circuit.specs.Search.{IsQuestion, Finds};
 use crate::NoMemory;
 use crate::circuit::Circuit;
 use crate::gate::{Gate, Node};
-use crate::settled::settle;
 use crate::support::support;
+use crate::table::Table;
 use std::alloc::Global;
 
 /// The least inputs, in dictionary order with false first, that make the root true: one value for each input.
@@ -20,16 +20,16 @@ pub fn least(alloc: Global, circuit: &Circuit, root: Node) -> Result<Option<Vec<
 {
     let gates = circuit.gates();
     let mut inputs = Vec::new(alloc);
-    let unsettled = vec![in alloc; None; gates.len()]?;
-    let table = settle(alloc, gates, unsettled.as_slice(), inputs.as_slice())?;
-    let support = support(alloc, gates, root.place(), table.as_slice())?;
+    let blank = Table::blank(alloc, gates.len())?;
+    let table = blank.settle(alloc, gates, inputs.as_slice())?;
+    let support = support(alloc, gates, root.place(), table.values())?;
     let search = Search {
         alloc,
         gates,
         root: root.place(),
         support: support.as_slice(),
     };
-    if search.decide(table.as_slice(), &mut inputs)? {
+    if search.decide(&table, &mut inputs)? {
         Ok(Some(inputs))
     } else {
         Ok(None)
@@ -49,13 +49,13 @@ struct Search<'a> {
 impl Search<'_> {
     /// Whether inputs that begin with the chosen ones make the root true. If so, the least of them are chosen.
     #[cycle(search)]
-    fn decide(&self, table: &[Option<bool>], chosen: &mut Vec<bool>) -> Result<bool, NoMemory>
+    fn decide(&self, table: &Table, chosen: &mut Vec<bool>) -> Result<bool, NoMemory>
         requires question { IsQuestion self.now.gates.now self.now.root self.now.support.now }
         requires table { table.now ≡ settled self.now.gates.now chosen.old.items }
         requires few { length chosen.old.items ≤ input_count self.now.gates.now }
         ensures { IfOk result (Finds self.now.gates.now self.now.root chosen.old.items chosen.old.items chosen.new.items) }
     {
-        match table[self.root] {
+        match table.values()[self.root] {
             Some(true) => {
                 chosen.resize(self.support.len(), false)?;
                 Ok(true)
@@ -67,7 +67,7 @@ impl Search<'_> {
 
     /// `decide` where the root is not settled, so that an input is left to choose.
     #[cycle(search)]
-    fn split(&self, table: &[Option<bool>], chosen: &mut Vec<bool>) -> Result<bool, NoMemory>
+    fn split(&self, table: &Table, chosen: &mut Vec<bool>) -> Result<bool, NoMemory>
         requires question { IsQuestion self.now.gates.now self.now.root self.now.support.now }
         requires table { table.now ≡ settled self.now.gates.now chosen.old.items }
         requires few { length chosen.old.items < input_count self.now.gates.now }
@@ -80,7 +80,7 @@ impl Search<'_> {
         if !self.support[number] {
             return Ok(false);
         }
-        let support = support(self.alloc, self.gates, self.root, table)?;
+        let support = support(self.alloc, self.gates, self.root, table.values())?;
         if !support[number] {
             return Ok(false);
         }
@@ -89,20 +89,15 @@ impl Search<'_> {
 
     /// `decide` with one value more.
     #[cycle(search)]
-    fn choose(
-        &self,
-        table: &[Option<bool>],
-        chosen: &mut Vec<bool>,
-        value: bool,
-    ) -> Result<bool, NoMemory>
+    fn choose(&self, table: &Table, chosen: &mut Vec<bool>, value: bool) -> Result<bool, NoMemory>
         requires question { IsQuestion self.now.gates.now self.now.root self.now.support.now }
         requires table { table.now ≡ settled self.now.gates.now chosen.old.items }
         requires few { length chosen.old.items < input_count self.now.gates.now }
         ensures { IfOk result (Finds self.now.gates.now self.now.root (chosen.old.items ++ value ∷ []) chosen.old.items chosen.new.items) }
     {
         chosen.push(value)?;
-        let next = settle(self.alloc, self.gates, table, chosen.as_slice())?;
-        if self.decide(next.as_slice(), chosen)? {
+        let next = table.settle(self.alloc, self.gates, chosen.as_slice())?;
+        if self.decide(&next, chosen)? {
             return Ok(true);
         }
         chosen.pop();

@@ -1,36 +1,12 @@
-ghost use Rattle.std.specs.Prelude.{◌≡◌, ◌<◌, ℕ, length, All, IfOk};
-ghost use Rattle.std.specs.List.{AllByRecursion, AllZip};
-ghost use Rattle.circuit.specs.Value.{parts_of, IsCircuit};
-ghost use Rattle.circuit.specs.Settled.{settled_at, settled_all, settled_any, settled_ite, settled_value, settled, StaysSettled};
+ghost use Rattle.std.specs.Prelude.{◌≡◌, ◌<◌, ℕ, length, All};
+ghost use Rattle.std.specs.List.{AllByRecursion};
+ghost use Rattle.circuit.specs.Value.{parts_of};
+ghost use Rattle.circuit.specs.Settled.{settled_at, settled_all, settled_any, settled_ite, settled_value};
 
-use crate::NoMemory;
 use crate::gate::{Gate, Node};
-use std::alloc::Global;
-
-/// What the values of the first inputs settle of each node. What the table has settled already is not evaluated again.
-pub(crate) fn settle(
-    alloc: Global,
-    gates: &[Gate],
-    table: &[Option<bool>],
-    chosen: &[bool],
-) -> Result<Vec<Option<bool>>, NoMemory>
-    requires circuit { IsCircuit gates.now }
-    requires kept { AllZip StaysSettled table.now (settled gates.now chosen.now) }
-    ensures { IfOk result (λ next. next.items ≡ settled gates.now chosen.now) }
-{
-    let mut next = Vec::with_capacity(alloc, gates.len())?;
-    for (place, gate) in gates.iter().enumerate() {
-        let value = match table[place] {
-            Some(value) => Some(value),
-            None => settle_gate(gate, next.as_slice(), chosen),
-        };
-        next.push(value)?;
-    }
-    Ok(next)
-}
 
 /// What is settled of a gate, given what is settled of its parts.
-fn settle_gate(gate: &Gate, table: &[Option<bool>], chosen: &[bool]) -> Option<bool>
+pub(crate) fn settle_gate(gate: &Gate, table: &[Option<bool>], chosen: &[bool]) -> Option<bool>
     requires { AllByRecursion (λ part. part < length table.now) (parts_of gate.now) }
     ensures { result ≡ settled_value chosen.now table.now gate.now }
 {

@@ -2,6 +2,11 @@ pub mod NumberBits
 pub mod FieldPlaces
 pub mod Nodes
 pub mod MatchTests
+pub mod Narrowing
 pub mod PermittedPackets
 pub mod ShownTests
 pub mod Scenarios
+pub mod MissedEntries
+pub mod Dictionary
+pub mod FirstOrNone
+pub mod OneFirst

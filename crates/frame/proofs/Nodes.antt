@@ -1,11 +1,11 @@
 -- The nodes of a circuit over the bits of a packet: what new ones mean, and that older ones keep their meaning.
-use Rattle.std.proofs.Common.{◌≡◌, ℕ, ◌+◌, ◌/◌, ◌^◌, ◌<◌, ◌&&◌, nat_le, not, Bool, true, false, List, [], ◌∷◌, ◌++◌, length, map, take, Result, Ok, Err, IfOk, OnOk, OnErr, refl, sym, ap, ap₂, ◌∙◌, arith, if◌then◌else◌, length-append}
+use Rattle.std.proofs.Common.{◌≡◌, ℕ, ◌+◌, ◌<◌, ◌&&◌, not, Bool, true, false, List, [], ◌∷◌, ◌++◌, length, map, take, Result, Ok, Err, IfOk, OnOk, OnErr, sym, ap, ap₂, ◌∙◌, arith}
 use Rattle.std.specs.List.{list_all}
 use Rattle.std.proofs.lemmas.List.{map_push, take_more}
 use Rattle.circuit.specs.declared.gate.Gate.{Gate}
 use Rattle.circuit.specs.declared.gate.Gate.TheVariants as gate
-use Rattle.circuit.specs.Gates.{with_gate, with_input, with_masked, masked_gates, fixed_nodes}
-use Rattle.circuit.specs.Number.{number, agrees}
+use Rattle.circuit.specs.Gates.{with_gate, with_input}
+use Rattle.circuit.specs.Number.{number}
 use Rattle.circuit.specs.Value.{AreNodes, Extends, input_count, is_input, value, value_at}
 use Rattle.circuit.proofs.Added.{inputs_push}
 use Rattle.circuit.proofs.Extend.{AreNodes-extends, Extends-trans, map-extends, input_count-append}
@@ -39,18 +39,6 @@ bits_more old new bits node count inputs extends nodes front next inside =
     map_push (value new inputs) bits node
     ∙ rw (map-extends old new extends inputs bits nodes, front, next) (sym (take_more inputs count false inside))
 
-no_inputs : (t : Bool) (zeros ones : List ℕ) (n : ℕ) → input_count ((if t then gate.Or zeros else gate.And []) ∷ gate.Not n ∷ gate.And ones ∷ []) ≡ 0
-no_inputs true zeros ones n = refl
-no_inputs false zeros ones n = refl
-
-masked_inputs : (old : List Gate) (bits : List ℕ) (v w : ℕ) → input_count (with_masked old bits v w) ≡ input_count old
-masked_inputs old bits v w =
-    omega (arith, input_count-append old (masked_gates (length old) bits v w), no_inputs (agrees 0 (v / 2 ^ length bits) (w / 2 ^ length bits)) (fixed_nodes bits v w 0) (fixed_nodes bits v w 1 ++ (length old + 1) ∷ []) (length old))
-
-pub inputs_after_masked : {E : Type 0} (r : Result ℕ E) (old new : List Gate) (bits : List ℕ) (v w : ℕ) → OnOk r (new ≡ with_masked old bits v w) → OnErr r (new ≡ old) → input_count new ≡ input_count old
-inputs_after_masked (Ok node) old new bits v w ok err = ap input_count ok ∙ masked_inputs old bits v w
-inputs_after_masked (Err e) old new bits v w ok err = ap input_count err
-
 pub inputs_after : {E : Type 0} (r : Result ℕ E) (old new : List Gate) → OnOk r (input_count new ≡ input_count old) → OnErr r (new ≡ old) → input_count new ≡ input_count old
 inputs_after (Ok node) old new ok err = ok
 inputs_after (Err e) old new ok err = ap input_count err
@@ -67,27 +55,15 @@ means_of_field old new bits nodes f node test has are within worth = record {
       ∙ ap test (field_value old bits inputs packet f has is);
 }
 
-pub masked_adds : {E : Type 0} (r : Result ℕ E) (old new : List Gate) (bits nodes : List ℕ) (f : Field) (v w : ℕ) → HasBits old bits → nodes ≡ field_bits f bits → Extends old new
-    → IfOk r (λ node. node ≡ length old + 2) → OnOk r (new ≡ with_masked old nodes v w)
-    → IfOk r (λ node. (inputs : List Bool) → value new inputs node ≡ agrees (number (map (value old inputs) nodes)) v w)
-    → IfOk r (λ node. Adds old new node (λ packet. agrees (request_of packet f) v w))
-masked_adds (Ok node) old new bits nodes f v w has are extends place circuit worth = record {
-  older = extends;
-  means =
-      means_of_field old new bits nodes f node (λ n. agrees n v w) has are
-      (omega (arith, place, ap length circuit, length-append old (masked_gates (length old) nodes v w))) worth;
-}
-masked_adds (Err e) old new bits nodes f v w has are extends place circuit worth = tt
-
-pub range_adds : {E : Type 0} (r : Result ℕ E) (old new : List Gate) (bits nodes : List ℕ) (f : Field) (lo hi : ℕ) → HasBits old bits → nodes ≡ field_bits f bits → Extends old new
+pub field_adds : {E : Type 0} (r : Result ℕ E) (old new : List Gate) (bits nodes : List ℕ) (f : Field) (test : ℕ → Bool) → HasBits old bits → nodes ≡ field_bits f bits → Extends old new
     → IfOk r (λ node. length new ≡ node + 1)
-    → IfOk r (λ node. (inputs : List Bool) → value new inputs node ≡ (nat_le lo (number (map (value old inputs) nodes)) && nat_le (number (map (value old inputs) nodes)) hi))
-    → IfOk r (λ node. Adds old new node (λ packet. nat_le lo (request_of packet f) && nat_le (request_of packet f) hi))
-range_adds (Ok node) old new bits nodes f lo hi has are extends last worth = record {
+    → IfOk r (λ node. (inputs : List Bool) → value new inputs node ≡ test (number (map (value old inputs) nodes)))
+    → IfOk r (λ node. Adds old new node (λ packet. test (request_of packet f)))
+field_adds (Ok node) old new bits nodes f test has are extends last worth = record {
   older = extends;
-  means = means_of_field old new bits nodes f node (λ n. nat_le lo n && nat_le n hi) has are (omega (arith, last)) worth;
+  means = means_of_field old new bits nodes f node test has are (omega (arith, last)) worth;
 }
-range_adds (Err e) old new bits nodes f lo hi has are extends last worth = tt
+field_adds (Err e) old new bits nodes f test has are extends last worth = tt
 
 -- a node keeps its meaning behind further gates
 pub Means-extends : (old new : List Gate) (node : ℕ) (meaning : Packet → Bool) → Extends old new → Means old node meaning → Means new node meaning
@@ -116,15 +92,13 @@ means_both old new first second node m n one two within worth = record {
 }
 
 -- a node over another one
-pub not_adds : {E : Type 0} (r : Result ℕ E) (old mid new : List Gate) (part : ℕ) (m meaning : Packet → Bool) → Adds old mid part m
-    → ((packet : Packet) → not (m packet) ≡ meaning packet) → Extends mid new → IfOk r (λ node. node < length new)
-    → IfOk r (λ node. (inputs : List Bool) → value new inputs node ≡ not (value mid inputs part))
-    → IfOk r (λ node. Adds old new node meaning)
-not_adds (Ok node) old mid new part m meaning adds same extends within worth = record {
+pub not_adds : (old mid new : List Gate) (part node : ℕ) (m : Packet → Bool) → Adds old mid part m → Extends mid new → node < length new
+    → ((inputs : List Bool) → value new inputs node ≡ not (value mid inputs part))
+    → Adds old new node (λ packet. not (m packet))
+not_adds old mid new part node m adds extends within worth = record {
   older = Extends-trans old mid new adds.older extends;
   means = record {
     within = within;
-    value = λ inputs packet is. worth inputs ∙ ap not (adds.means.value inputs packet is) ∙ same packet;
+    value = λ inputs packet is. worth inputs ∙ ap not (adds.means.value inputs packet is);
   };
 }
-not_adds (Err e) old mid new part m meaning adds same extends within worth = tt

@@ -1,11 +1,13 @@
 -- The tests that are shown, one more at a time.
-use Rattle.std.proofs.Common.{◌≡◌, ℕ, ◌+◌, ◌<◌, ◌==◌, ◌&&◌, ◌||◌, not, Bool, true, false, Option, Some, None, List, [], ◌∷◌, ◌++◌, length, take, get_or, refl, sym, ap, ◌∙◌, if◌then◌else◌, append-nil}
+use Rattle.std.proofs.Common.{◌≡◌, ℕ, ◌+◌, ◌<◌, ◌==◌, ◌&&◌, ◌||◌, not, Bool, true, false, Option, Some, None, List, [], ◌∷◌, ◌++◌, length, take, get_or, refl, sym, ap, ◌∙◌, if◌then◌else◌, append-nil, subst, ◌↔◌}
 use Rattle.std.specs.List.{filter, list_any}
 use Rattle.std.proofs.lemmas.Bool.{and_from, and_parts, eq-eqb, eqb-true, false_from_ne_true, false≢true}
 use Rattle.std.proofs.lemmas.List.{take_more}
 use Rattle.std.proofs.lemmas.List.Elements.{filter-append}
 use Rattle.std.proofs.lemmas.Map.Views.{any-filter_same}
-use Rattle.ios_config.specs.Request.{place}
+use Rattle.ios_config.specs.declared.request.Field.{Field}
+use Rattle.ios_config.specs.declared.request.Field.TheVariants as field
+use Rattle.ios_config.specs.Request.{fields, place}
 use Rattle.frame.specs.declared.question.Test.{Test}
 use Rattle.frame.specs.Scenario.{same_test, same_wildcard, visible}
 
@@ -68,7 +70,7 @@ others_with first test tests false is =
     whether true = refl
     whether false = ap (λ ts. first ∷ ts) (others_push first test tests false is)
 
-visible_push : (tests : List Test) (test : Test) → visible (tests ++ test ∷ []) ≡ with_test (visible tests) test
+pub visible_push : (tests : List Test) (test : Test) → visible (tests ++ test ∷ []) ≡ with_test (visible tests) test
 visible_push [] test = refl
 visible_push (first ∷ tests) test = ap (λ ts. first ∷ others first ts) (visible_push tests test) ∙ others_with first test (visible tests) (same_test first test) refl
 
@@ -87,3 +89,56 @@ pub shown_before : (tests : List Test) (i : ℕ) (d : Test) (shown : List Test) 
 shown_before tests i d shown inside are old =
     let rest = visible_more tests i d inside in
     sym (rw (← are, old) at rest)
+
+same_field : (a b : Field) → place a ≡ place b → a ≡ b
+same_field a b same = sym (from_place a) ∙ ap at_place same ∙ from_place b
+  where
+    at_place : ℕ → Field
+    at_place n = get_or fields n field.Entry
+
+    from_place : (f : Field) → at_place (place f) ≡ f
+    from_place field.Entry = refl
+    from_place field.SrcIn = refl
+    from_place field.DstIn = refl
+    from_place field.SportIn = refl
+    from_place field.DportIn = refl
+    from_place field.Proto = refl
+    from_place field.Flags = refl
+    from_place field.IcmpType = refl
+    from_place field.IcmpCode = refl
+    from_place field.SrcOut = refl
+    from_place field.DstOut = refl
+    from_place field.SportOut = refl
+    from_place field.DportOut = refl
+    from_place field.NextHop = refl
+    from_place field.Exit = refl
+
+wildcards_are_one : (a b : Option ℕ) → same_wildcard a b ≡ true → a ≡ b
+wildcards_are_one None None same = refl
+wildcards_are_one None (Some v) same = absurd (false≢true same)
+wildcards_are_one (Some w) None same = absurd (false≢true same)
+wildcards_are_one (Some w) (Some v) same = ap (λ n. Some n) (eqb-true w v same)
+
+same_wildcard-refl : (a : Option ℕ) → same_wildcard a a ≡ true
+same_wildcard-refl None = refl
+same_wildcard-refl (Some w) = eq-eqb w w refl
+
+-- two tests are the same where they have the same field, value and wildcard
+pub same_tests : (a b : Test) → (same_test a b ≡ true) ↔ (a ≡ b)
+same_tests a b = (one, same)
+  where
+    one : same_test a b ≡ true → a ≡ b
+    one same =
+        let all = and_parts ((place a.field == place b.field) && (a.value == b.value)) (same_wildcard a.wildcard b.wildcard) same in
+        let front = and_parts (place a.field == place b.field) (a.value == b.value) all.0 in
+        let f = same_field a.field b.field (eqb-true (place a.field) (place b.field) front.0) in
+        let v = eqb-true a.value b.value front.1 in
+        let w = wildcards_are_one a.wildcard b.wildcard all.1 in
+        let test : Field → ℕ → Option ℕ → Test = λ x y z. record { field = x; value = y; wildcard = z } in
+        ap (λ x. test x a.value a.wildcard) f ∙ ap (λ y. test b.field y a.wildcard) v ∙ ap (test b.field b.value) w
+
+    same : a ≡ b → same_test a b ≡ true
+    same is =
+        let itself : same_test a a ≡ true = and_from ((place a.field == place a.field) && (a.value == a.value)) (same_wildcard a.wildcard a.wildcard)
+        (and_from (place a.field == place a.field) (a.value == a.value) (eq-eqb (place a.field) (place a.field) refl) (eq-eqb a.value a.value refl)) (same_wildcard-refl a.wildcard) in
+        subst (λ t. same_test a t ≡ true) is itself

@@ -1,5 +1,6 @@
 -- What the nodes of a circuit over the bits of a packet say of the packet. No public call is stated by this.
-use Rattle.std.specs.Prelude.{◌≡◌, ℕ, ◌<◌, not, Bool, true, false, List, length, map}
+use Rattle.std.specs.Prelude.{◌≡◌, ℕ, ◌<◌, ◌&&◌, not, Bool, true, false, List, length, map}
+use Rattle.std.specs.List.{list_all}
 use Rattle.circuit.specs.declared.gate.Gate.{Gate}
 use Rattle.circuit.specs.Value.{AreNodes, Extends, input_count, value}
 use Rattle.ios_acl.specs.declared.entry.Entry.{Entry}
@@ -27,6 +28,16 @@ pub record Means (gates : List Gate) (node : ℕ) (meaning : Packet → Bool) : 
 pub record Adds (old new : List Gate) (node : ℕ) (meaning : Packet → Bool) : Type 0 where
   pub older : Extends old new
   pub means : Means new node meaning
+
+-- the nodes are all true for the packets that pass the test, and for no others
+pub record AllMean (gates : List Gate) (nodes : List ℕ) (meaning : Packet → Bool) : Type 0 where
+  pub within : AreNodes gates nodes
+  pub value : (inputs : List Bool) (packet : Packet) → IsPacketOf inputs packet → list_all (value gates inputs) nodes ≡ meaning packet
+
+-- a circuit with more nodes, and nodes of it that are all true where the ones before are and the packet passes the test
+pub record Narrows (old new : List Gate) (before after : List ℕ) (test : Packet → Bool) : Type 0 where
+  pub older : Extends old new
+  pub parts : (meaning : Packet → Bool) → AllMean old before meaning → AllMean new after (λ packet. meaning packet && test packet)
 
 -- a packet within the bounds of its fields that passes the test
 pub record HoldsFor (meaning : Packet → Bool) (packet : Packet) : Type 0 where

@@ -8,16 +8,18 @@ use crate::matching::matched;
 use crate::packet_circuit::PacketCircuit;
 use circuit::Node;
 use ios_acl::{Entry, Verdict};
+use std::alloc::Global;
 
 /// Adds a node that is true where the entries decide so.
 pub(crate) fn decided(
+    alloc: Global,
     circuit: &mut PacketCircuit,
     entries: &[Entry],
     verdict: Verdict,
 ) -> Result<Node, NoMemory>
     ensures { IfOk result (λ node. Adds circuit.old circuit.new node (decides entries.now verdict)) }
 {
-    let permitted = permitted(circuit, entries)?;
+    let permitted = permitted(alloc, circuit, entries)?;
     match verdict {
         Verdict::Permit => Ok(permitted),
         Verdict::Deny => circuit.not(permitted),
@@ -25,25 +27,34 @@ pub(crate) fn decided(
 }
 
 /// Adds a node that is true where the first of the entries that matches permits.
-fn permitted(circuit: &mut PacketCircuit, entries: &[Entry]) -> Result<Node, NoMemory>
+fn permitted(
+    alloc: Global,
+    circuit: &mut PacketCircuit,
+    entries: &[Entry],
+) -> Result<Node, NoMemory>
     ensures { IfOk result (λ node. Adds circuit.old circuit.new node (permits entries.now)) }
 {
     let mut node = circuit.or(&[])?;
     let mut left = entries.len();
     while left > 0 {
         left -= 1;
-        node = decided_by(circuit, &entries[left], node)?;
+        node = decided_by(alloc, circuit, &entries[left], node)?;
     }
     Ok(node)
 }
 
 /// Adds a node that is what the entry says where it matches, and else the other node.
-fn decided_by(circuit: &mut PacketCircuit, entry: &Entry, other: Node) -> Result<Node, NoMemory>
+fn decided_by(
+    alloc: Global,
+    circuit: &mut PacketCircuit,
+    entry: &Entry,
+    other: Node,
+) -> Result<Node, NoMemory>
     requires { other < length circuit.old }
     ensures { IfOk result (λ node. (meaning : Packet → Bool) → Means circuit.old other meaning
         → Adds circuit.old circuit.new node (λ packet. if matches entry.now packet then is_permit entry.now.verdict else meaning packet)) }
 {
-    let matched = matched(circuit, entry)?;
+    let matched = matched(alloc, circuit, entry)?;
     match entry.verdict {
         Verdict::Permit => circuit.or(&[matched, other]),
         Verdict::Deny => {

@@ -7,10 +7,13 @@
 
 mod bits;
 mod decision;
+mod laws;
 mod matching;
 mod packet_circuit;
 mod question;
+mod relevance;
 
+pub use laws::{first_or_none, one_first, shown_once};
 pub use question::{Test, first_packet, visible};
 pub use std::alloc::AllocError as NoMemory;
 

@@ -11,6 +11,7 @@ ghost use Rattle.frame.specs.Scenario as specs;
 use crate::NoMemory;
 use crate::decision::decided;
 use crate::packet_circuit::PacketCircuit;
+use crate::relevance::relevant;
 use circuit::Node;
 use ios_acl::{Entry, Packet, Verdict};
 use ios_config::Field;
@@ -68,8 +69,9 @@ pub fn first_packet(
     ensures found { IfOk result (λ answer. IfSome answer (λ packet. IsFirst (asked entries.now verdict tests.now) (request_of packet))) }
     ensures none { IfOk result (λ answer. IfNone answer ((request : Request) → Solves (asked entries.now verdict tests.now) request → ⊥)) }
 {
+    let kept = relevant(alloc, entries, tests)?;
     let mut circuit = PacketCircuit::new(alloc)?;
-    let decided = decided(&mut circuit, entries, verdict)?;
+    let decided = decided(alloc, &mut circuit, kept.as_slice(), verdict)?;
     let root = tested(&mut circuit, decided, tests)?;
     circuit.first(alloc, root)
 }

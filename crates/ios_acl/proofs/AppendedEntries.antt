@@ -4,12 +4,12 @@ use Rattle.std.specs.Fmt.{decimal}
 use Rattle.std.specs.List.{AllByRecursion, filter}
 use Rattle.std.proofs.lemmas.Bool.{lt-ltb, le-ltb, ne_eqb}
 use Rattle.std.proofs.lemmas.List.{append-nil}
+use Rattle.ios_lex.proofs.DecimalTexts.{decimal_number}
 use Rattle.ios_acl.specs.declared.entry.Entry.{Entry}
 use Rattle.ios_acl.specs.List.{AccessList, with_entry, has_number, greatest_sequence, most_entries, IsRising, IsWritable}
 use Rattle.ios_acl.specs.Reading.{IsOpened, IsNumberOf, Reads}
 use Rattle.ios_acl.specs.Block.{ReadsAll}
 use Rattle.ios_acl.specs.Spelling.{sentence_words, entry_words}
-use Rattle.ios_acl.proofs.PlainWords.{decimal_number}
 use Rattle.ios_acl.proofs.WrittenEntries.{sentence_is_entry}
 
 abbrev AreBelow : ℕ → List Entry → Type 0

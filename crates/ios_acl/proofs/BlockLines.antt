@@ -20,7 +20,8 @@ use Rattle.ios_acl.specs.declared.entry.Entry.{Entry}
 use Rattle.ios_acl.specs.Phrases.{Words}
 use Rattle.ios_acl.specs.List.{IsWritable}
 use Rattle.ios_acl.specs.Block.{kind_word, IsWithinBlock}
-use Rattle.ios_acl.specs.Spelling.{behind_blanks, sentence_words, entry_words, entry_line, entry_lines, opening_line}
+use Rattle.ios_acl.specs.Spelling.{behind_blanks, sentence_words, entry_words, entry_line, opening_line}
+use Rattle.ios_acl.proofs.BlockTexts.{entry_lines}
 use Rattle.ios_acl.proofs.PlainWords.{is_printed, is_plain, plain_some, plain_printed}
 use Rattle.ios_acl.proofs.WrittenEntries.{entry_plain}
 

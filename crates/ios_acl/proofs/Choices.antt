@@ -1,19 +1,11 @@
 -- A part of a line that may be left out, and what stands behind it.
-use Rattle.std.proofs.Common.{◌≡◌, ◌⊎◌, inl, inr, ◌↔◌, ℕ, ◌<◌, Bool, true, false, List, [], ◌∷◌, ◌++◌, length, refl, sym}
+use Rattle.std.proofs.Common.{◌≡◌, ◌⊎◌, inl, inr, ◌↔◌, ℕ, ◌<◌, Bool, true, false, List, [], ◌∷◌, ◌++◌, length, refl}
 use Rattle.ios_acl.specs.declared.stop.Stop.{Stop}
 use Rattle.ios_acl.specs.Phrases.{Words, Then}
 use Rattle.ios_acl.specs.Following.{Begins, IsAddressWord, IsNumberWord, IsMessageName}
 use Rattle.ios_acl.specs.Stops.{expected_of, IsStop, LacksFirst}
-use Rattle.ios_acl.proofs.Fronts.{fronts}
+use Rattle.ios_acl.proofs.Chains.{cut_behind}
 use Rattle.ios_acl.proofs.Stopping.{IsPrefixFree, IsOptionalPart, stop_behind, stop_within_optional, stop_without}
-
--- where no words of a kind go on from others of it, a text is some of them and a rest in one way
-same_rest : (Kind : Words → Type 0) → IsPrefixFree Kind → (front back front' back' : Words) → Kind front → Kind front' → front ++ back ≡ front' ++ back' → back ≡ back'
-same_rest Kind free front back front' back' is is' whole = by_case (fronts front back front' back' whole)
-  where
-    by_case : ((more : Words) × (front' ≡ front ++ more) × (back ≡ more ++ back')) ⊎ ((more : Words) × (front ≡ front' ++ more) × (back' ≡ more ++ back)) → back ≡ back'
-    by_case (inl (more, front_is, back_is)) = let none = free front more is (rw front_is at is') in rw none at back_is
-    by_case (inr (more, front_is, back_is)) = let none = free front' more is' (rw front_is at is) in sym (rw none at back_is)
 
 -- a line is a rest, and a part may stand before it
 pub record IsChoice (Part Rest Line : Bool → Words → Type 0) : Type 0 where
@@ -60,7 +52,7 @@ behind_part Part Rest Line choice front part b x = (
 
     forth : Rest b (front ++ x) ⊎ Then (Part b) (Rest b) (front ++ x) → Rest b x
     forth (inl rest) = absurd (no_rest front (part_at b) rest)
-    forth (inr both) = rw (same_rest (Part b) (choice.free b) front x both.front both.back (part_at b) both.first both.whole) both.second
+    forth (inr both) = rw (cut_behind (Part b) (choice.free b) front x both.front both.back (part_at b) both.first both.whole) both.second
 
 -- a stop behind the part
 pub stop_behind_part : (Part Rest Line : Bool → Words → Type 0) → IsChoice Part Rest Line → (words front rest : Words) (stop : Stop)

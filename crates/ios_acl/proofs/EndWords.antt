@@ -17,8 +17,10 @@ use Rattle.ios_acl.specs.Parts.{SomePorts, SomeLog, IsMessageEnd, SomeMessageEnd
 use Rattle.ios_acl.proofs.Stopping.{stop_behind}
 use Rattle.ios_acl.proofs.WordForms.{numeral_digit, address_digit}
 use Rattle.ios_acl.proofs.Choices.{IsChoice, stop_behind_part, stop_in_part, stop_without_part}
-use Rattle.ios_acl.proofs.LastWords.{behind_none, behind_one, log_alone}
-use Rattle.ios_acl.proofs.PortWords.{IsTestWord, test_word, lacks_test, no_ports_nowhere, ports_prefix_free, more_ports}
+use Rattle.ios_acl.proofs.LastWords.{behind_none, behind_one}
+use Rattle.ios_acl.proofs.PortWords.{IsTestWord, test_word, lacks_test, no_ports_nowhere, more_ports}
+use Rattle.ios_acl.proofs.LogWords.{log_text}
+use Rattle.ios_acl.proofs.PrefixFree.{ports_prefix_free}
 
 -- a keyword that is no name of a message is no address, no number and no such name
 record IsKeyword (word : List ℕ) : Type 0 where
@@ -63,7 +65,7 @@ established_choice = record {
     apart : (word : List ℕ) (more more' : Words) → word ∷ more ≡ codes "established" ∷ [] → IsLog true (word ∷ more') → ⊥
     apart word more more' part logs =
         let named : word ≡ codes "established" = cc part in
-        elim (log_alone word more' logs) [ inl same ↦ let no : codes "established" ≡ codes "log" = sym named ∙ same in cc no | inr same ↦ let no : codes "established" ≡ codes "log-input" = sym named ∙ same in cc no ]
+        elim (log_text true word more' logs) [ inl same ↦ let no : codes "established" ≡ codes "log" = sym named ∙ same in cc no | inr same ↦ let no : codes "established" ≡ codes "log-input" = sym named ∙ same in cc no ]
 
 pub no_connection : (words : Words) → IsLog true words → IsConnectionEnd false words
 no_connection words logs = record { front = []; back = words; whole = refl; first = IsEstablishedOf.none refl refl; second = logs }
@@ -102,7 +104,7 @@ test_form tcp word form begins = keyword_form word (test_keyword word (test_word
 
 no_log_test : (word : List ℕ) (x : Words) → is_among port_words word ≡ true → IsLog true (word ∷ x) → ⊥
 no_log_test word x among logs =
-    elim (log_alone word x logs) [ inl same ↦ let no = rw same at among in cc no | inr same ↦ let no = rw same at among in cc no ]
+    elim (log_text true word x logs) [ inl same ↦ let no = rw same at among in cc no | inr same ↦ let no = rw same at among in cc no ]
 
 no_connection_test : (established : Bool) (word : List ℕ) (x : Words) → is_among port_words word ≡ true → IsConnectionEnd established (word ∷ x) → ⊥
 no_connection_test established word x among m = by_case m.first

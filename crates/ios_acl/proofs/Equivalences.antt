@@ -1,9 +1,6 @@
 -- Facts that follow from each other.
 use Rattle.std.proofs.Common.{◌↔◌}
 
-pub iff_refl : {A : Type 0} → A ↔ A
-iff_refl = (λ a. a, λ a. a)
-
 pub iff_sym : {A B : Type 0} → A ↔ B → B ↔ A
 iff_sym same = (same.1, same.0)
 

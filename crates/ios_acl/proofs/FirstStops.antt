@@ -15,9 +15,6 @@ use Rattle.ios_acl.proofs.Stopping.{stop_first}
 pub begins_with_text : (words rest : Words) (word text : List ℕ) → words ≡ word ∷ rest → bytes_eq word text ≡ true → words ≡ text ∷ rest
 begins_with_text words rest word text whole same = let is = (bytes_eq-Decides word text).0 same in cc
 
-pub is_other : (word text : List ℕ) → bytes_eq word text ≡ false → word ≡ text → ⊥
-is_other word text differs is = let same = (bytes_eq-Decides word text).1 is in absurd (cc)
-
 -- what is expected holds, and what is not does not
 pub expected : {P : Type 0} → P → IsTrue true ↔ P
 expected holds = (λ _. holds, λ _. refl)

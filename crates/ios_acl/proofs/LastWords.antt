@@ -1,8 +1,5 @@
 -- What the last words of an entry spell, and where they stop to spell it.
-use Rattle.std.proofs.Common.{◌≡◌, ◌⊎◌, inl, inr, ◌↔◌, ℕ, Bool, true, false, List, [], ◌∷◌, ◌++◌, length, Option, Some, None, refl, sym, Contains, codes, lit<}
-use Rattle.std.specs.Str.{bytes_eq}
-use Rattle.std.proofs.lemmas.Bool.{or_cases}
-use Rattle.std.proofs.lemmas.Slice.Eq.{bytes_eq-Decides}
+use Rattle.std.proofs.Common.{◌≡◌, inl, inr, ◌↔◌, ℕ, Bool, true, false, List, [], ◌∷◌, ◌++◌, length, Option, Some, None, refl, sym, Contains, codes, lit<}
 use Rattle.ios_lex.specs.Address.{IsAddress}
 use Rattle.ios_lex.specs.Decimal.{IsNumber}
 use Rattle.ios_lex.specs.Names.{icmp_messages, IsMessage}
@@ -11,12 +8,12 @@ use Rattle.ios_acl.specs.declared.stop.Stop.{Stop}
 use Rattle.ios_acl.specs.Phrases.{Words}
 use Rattle.ios_acl.specs.Grammar.{AreMessages, AreMessagesOf, IsLog}
 use Rattle.ios_acl.specs.Following.{Begins, MayFollow, IsExpected, IsAddressWord, IsMessageName}
-use Rattle.ios_acl.specs.Refusal.{begins_with_digit}
 use Rattle.ios_acl.specs.Stops.{expecting, StopsBefore, IsStop}
 use Rattle.ios_acl.specs.Parts.{SomeLog, IsCodeEnd, SomeCodeEnd, IsMessageEnd, SomeMessageEnd, is_log_word, is_log_next}
 use Rattle.ios_acl.proofs.Stopping.{stop_first, stop_behind}
-use Rattle.ios_acl.proofs.WordForms.{zero_number, number_word, numeral_digit, address_digit, no_number_address, no_address_message, message_name_form, no_log_message, no_log_input_message}
+use Rattle.ios_acl.proofs.WordForms.{zero_number, number_word, numeral_digit, no_number_address, no_address_message, message_name_form}
 use Rattle.ios_acl.proofs.FirstStops.{stop_ahead}
+use Rattle.ios_acl.proofs.LogWords.{log_test, log_read, no_log_address, no_log_number, no_log_message}
 
 -- words before the last ones: none, or one
 pub behind_none : (words front back : Words) → words ≡ front ++ back → front ≡ [] → back ≡ words
@@ -24,33 +21,6 @@ behind_none words front back whole none = let same = rw none at whole in sym sam
 
 pub behind_one : (word first : List ℕ) (x front back : Words) → word ∷ x ≡ front ++ back → front ≡ first ∷ [] → (first ≡ word) × (back ≡ x)
 behind_one word first x front back whole one = let same = rw one at whole in (cc same, cc same)
-
--- a word on logging
-
-pub log_alone : (word : List ℕ) (x : Words) → IsLog true (word ∷ x) → (word ≡ codes "log") ⊎ (word ≡ codes "log-input")
-log_alone word x (IsLog.none none) = cc none
-log_alone word x (IsLog.log one) = inl (cc one)
-log_alone word x (IsLog.input extended one) = inr (cc one)
-
-log_no_digit : (word : List ℕ) (x : Words) → IsLog true (word ∷ x) → begins_with_digit word ≡ true → ⊥
-log_no_digit word x logs digit =
-    elim (log_alone word x logs) [ inl same ↦ let no = rw same at digit in cc no | inr same ↦ let no = rw same at digit in cc no ]
-
-no_log_number : (most : ℕ) (word : List ℕ) (n : ℕ) (x : Words) → IsNumber most word n → IsLog true (word ∷ x) → ⊥
-no_log_number most word n x number logs = log_no_digit word x logs (numeral_digit word (number_word most word n number))
-
-no_message_log : (word : List ℕ) (message : ℕ × Option ℕ) (x : Words) → IsMessage word message → IsLog true (word ∷ x) → ⊥
-no_message_log word message x is logs =
-    elim (log_alone word x logs) [ inl same ↦ no_log_message message (rw same at is) | inr same ↦ no_log_input_message message (rw same at is) ]
-
-log_word : (word : List ℕ) (x : Words) → IsLog true (word ∷ x) → is_log_word true word ≡ true
-log_word word x logs = elim (log_alone word x logs) [ inl same ↦ rw same refl | inr same ↦ rw same refl ]
-
-word_log : (word : List ℕ) → is_log_word true word ≡ true → IsLog true (word ∷ [])
-word_log word is = elim (or_cases (bytes_eq word (codes "log")) (bytes_eq word (codes "log-input")) is) [
-  | inl same ↦ IsLog.log (rw ((bytes_eq-Decides word (codes "log")).0 same) refl)
-  | inr same ↦ IsLog.input refl (rw ((bytes_eq-Decides word (codes "log-input")).0 same) refl)
-]
 
 -- a stop behind a word on logging, where that word begins a line only as it begins a log
 stop_at_log : (Line : Bool → Words → Type 0) (words : Words) (stop : Stop) → is_log_next words ≡ true
@@ -63,8 +33,8 @@ stop_at_log Line [] stop next same stops = absurd (no_stop stops.front stops.bac
     no_stop [] (word ∷ more) whole before = cc whole
     no_stop (word ∷ more) back whole before = cc whole
 stop_at_log Line (word ∷ rest) stop next same stops =
-    stop_behind Line (λ b x. SomeLog true b (word ∷ x)) (word ∷ rest) (word ∷ []) rest stop refl (λ b x. same b word x (word_log word next))
-    (stop_ahead (SomeLog true) (word ∷ rest) rest word stop refl ([], word_log word next) stops)
+    stop_behind Line (λ b x. SomeLog true b (word ∷ x)) (word ∷ rest) (word ∷ []) rest stop refl (λ b x. same b word x (log_read true word next))
+    (stop_ahead (SomeLog true) (word ∷ rest) rest word stop refl ([], log_read true word next) stops)
 
 -- the code of an ICMP message
 
@@ -92,7 +62,7 @@ stop_log_code words stop next stops = stop_at_log SomeCodeEnd words stop next sa
       where
         by_case : IsCodeFirst word x → IsLog true (word ∷ x)
         by_case (IsCodeFirst.log longer) = longer
-        by_case (IsCodeFirst.number n is longer) = absurd (no_log_number 255 word n [] is logs)
+        by_case (IsCodeFirst.number n is longer) = absurd (no_log_number true word [] logs (number_word 255 word n is))
 
         forth : SomeCodeEnd b (word ∷ x) → IsLog true (word ∷ x)
         forth m = by_case (code_first m.0 word x m.1)
@@ -102,7 +72,7 @@ pub stop_behind_code : (word : List ℕ) (n : ℕ) (words rest : Words) (stop : 
 stop_behind_code word n words rest stop whole is stops = stop_behind SomeCodeEnd (SomeLog true) words (word ∷ []) rest stop whole same stops
   where
     by_case : (x : Words) → IsCodeFirst word x → IsLog true x
-    by_case x (IsCodeFirst.log longer) = absurd (no_log_number 255 word n x is longer)
+    by_case x (IsCodeFirst.log longer) = absurd (no_log_number true word x longer (number_word 255 word n is))
     by_case x (IsCodeFirst.number n' is' logs) = logs
 
     same : (b : Bool) (x : Words) → SomeCodeEnd b (word ∷ x) ↔ SomeLog true b x
@@ -120,14 +90,14 @@ code_expected = record {
     no_address m = by_case (code_first m.2.1.0 m.0 m.2.0 m.2.1.1)
       where
         by_case : IsCodeFirst m.0 m.2.0 → ⊥
-        by_case (IsCodeFirst.log logs) = log_no_digit m.0 m.2.0 logs (address_digit m.0 m.1.0 m.1.1)
+        by_case (IsCodeFirst.log logs) = no_log_address true m.0 m.2.0 m.1.0 logs m.1.1
         by_case (IsCodeFirst.number n is logs) = no_number_address m.0 m.1.0 (number_word 255 m.0 n is) m.1.1
 
     no_message : MayFollow (SomeCodeEnd false) [] IsMessageName → ⊥
     no_message m = by_case (code_first m.2.1.0 m.0 m.2.0 m.2.1.1)
       where
         by_case : IsCodeFirst m.0 m.2.0 → ⊥
-        by_case (IsCodeFirst.log logs) = no_message_log m.0 m.1.0 m.2.0 (inl m.1.1) logs
+        by_case (IsCodeFirst.log logs) = no_log_message true m.0 m.2.0 m.1.0 logs (inl m.1.1)
         by_case (IsCodeFirst.number n is logs) =
             let digit = numeral_digit m.0 (number_word 255 m.0 n is) in
             let letter = message_name_form m.0 m.1 in
@@ -142,7 +112,7 @@ stop_no_code words stop word rest whole next none is_due left = stop_first SomeC
     other = rw whole at next
 
     by_case : (x : Words) → IsCodeFirst word x → ⊥
-    by_case x (IsCodeFirst.log logs) = let is = log_word word x logs in cc (is, other)
+    by_case x (IsCodeFirst.log logs) = let is = log_test true word x logs in cc (is, other)
     by_case x (IsCodeFirst.number n is logs) = none n is
 
     stops : (b : Bool) → Begins (SomeCodeEnd b) (word ∷ []) → ⊥
@@ -215,8 +185,8 @@ stop_log_message words stop next stops = stop_at_log SomeMessageEnd words stop n
   where
     by_case : (word : List ℕ) (x : Words) → IsLog true (word ∷ []) → IsMessageFirst word x → IsLog true (word ∷ x)
     by_case word x logs (IsMessageFirst.log longer) = longer
-    by_case word x logs (IsMessageFirst.number n is code) = absurd (no_log_number 255 word n [] is logs)
-    by_case word x logs (IsMessageFirst.name message is more) = absurd (no_message_log word message [] (inl is) logs)
+    by_case word x logs (IsMessageFirst.number n is code) = absurd (no_log_number true word [] logs (number_word 255 word n is))
+    by_case word x logs (IsMessageFirst.name message is more) = absurd (no_log_message true word [] message logs (inl is))
 
     same : (b : Bool) (word : List ℕ) (x : Words) → IsLog true (word ∷ []) → SomeMessageEnd b (word ∷ x) ↔ IsLog true (word ∷ x)
     same b word x logs = (λ m. by_case word x logs (message_first m.0 word x m.1), λ longer. (None, no_message (word ∷ x) longer))
@@ -227,7 +197,7 @@ pub stop_behind_type : (word : List ℕ) (n : ℕ) (words rest : Words) (stop : 
 stop_behind_type word n words rest stop whole is stops = stop_behind SomeMessageEnd SomeCodeEnd words (word ∷ []) rest stop whole same stops
   where
     by_case : (x : Words) → IsMessageFirst word x → SomeCodeEnd false x
-    by_case x (IsMessageFirst.log longer) = absurd (no_log_number 255 word n x is longer)
+    by_case x (IsMessageFirst.log longer) = absurd (no_log_number true word x longer (number_word 255 word n is))
     by_case x (IsMessageFirst.number n' is' code) = code
     by_case x (IsMessageFirst.name message named logs) =
         let digit = numeral_digit word (number_word 255 word n is) in
@@ -243,7 +213,7 @@ pub stop_behind_message : (word : List ℕ) (message : ℕ × Option ℕ) (words
 stop_behind_message word message words rest stop whole none is stops = stop_behind SomeMessageEnd (SomeLog true) words (word ∷ []) rest stop whole same stops
   where
     by_case : (x : Words) → IsMessageFirst word x → IsLog true x
-    by_case x (IsMessageFirst.log longer) = absurd (no_message_log word message x is longer)
+    by_case x (IsMessageFirst.log longer) = absurd (no_log_message true word x message longer is)
     by_case x (IsMessageFirst.number n is code) = absurd (none n is)
     by_case x (IsMessageFirst.name message' named logs) = logs
 
@@ -266,7 +236,7 @@ message_expected = record {
     nothing = (None, no_message [] (IsLog.none refl))
 
     by_case : (word : List ℕ) (n : ℕ) (x : Words) → IsAddress word n → IsMessageFirst word x → ⊥
-    by_case word n x is (IsMessageFirst.log logs) = log_no_digit word x logs (address_digit word n is)
+    by_case word n x is (IsMessageFirst.log logs) = no_log_address true word x n logs is
     by_case word n x is (IsMessageFirst.number k type code) = no_number_address word n (number_word 255 word k type) is
     by_case word n x is (IsMessageFirst.name message named logs) = no_address_message word n message is (inl named)
 
@@ -282,7 +252,7 @@ stop_no_message words stop word rest whole next none is_due left = stop_first So
     other = rw whole at next
 
     by_case : (x : Words) → IsMessageFirst word x → ⊥
-    by_case x (IsMessageFirst.log logs) = let is = log_word word x logs in cc (is, other)
+    by_case x (IsMessageFirst.log logs) = let is = log_test true word x logs in cc (is, other)
     by_case x (IsMessageFirst.number n is code) = none (n, None) (inr (is, refl))
     by_case x (IsMessageFirst.name message is logs) = none message (inl is)
 

@@ -1,4 +1,5 @@
 pub mod Insertion
+pub mod BitTests
 pub mod LineReadings
 pub mod Reasons
 pub mod Rising
@@ -18,7 +19,9 @@ pub mod OneEnd
 pub mod OneEntry
 pub mod OneStop
 pub mod OneReading
+pub mod SomeReading
 pub mod PrefixFree
+pub mod LogWords
 pub mod LogForms
 pub mod PlaceForms
 pub mod WildcardForms
@@ -28,6 +31,7 @@ pub mod Choices
 pub mod LastWords
 pub mod EndWords
 pub mod PlainWords
+pub mod ListNumbers
 pub mod BlockTexts
 pub mod NameValues
 pub mod WrittenEntries

@@ -1,5 +1,6 @@
 -- What a line does with a list, from what its parts are read as.
-use Rattle.std.proofs.Common.{◌≡◌, ℕ, ◌-◌, Bool, true, false, List, [], ◌∷◌, ◌++◌, length, take, slice_get, Option, Some, None, IfSome, refl, sym, ap, ◌∙◌, arith, length-append}
+use Rattle.std.proofs.Common.{◌≡◌, ℕ, ◌-◌, Bool, false, List, [], ◌∷◌, ◌++◌, length, take, slice_get, Option, Some, None, IfSome, refl, sym, ap, ◌∙◌, arith, length-append}
+use Rattle.std.proofs.lemmas.Bool.{false_from_ne_true}
 use Rattle.std.proofs.lemmas.List.{append-nil, take_at, get_or_at}
 use Rattle.std.proofs.lemmas.Option.{slice_get_past, slice_get-get_or}
 use Rattle.ios_lex.specs.declared.reason.IosReason.{IosReason}
@@ -8,7 +9,7 @@ use Rattle.ios_acl.specs.declared.fault.AclFault.{AclFault}
 use Rattle.ios_acl.specs.declared.fault.AclFault.TheVariants as faults
 use Rattle.ios_acl.specs.declared.stop.Stop.{Stop}
 use Rattle.ios_acl.specs.Phrases.{Words}
-use Rattle.ios_acl.specs.Grammar.{IsEntry, IsRemark, IsSentence, verdict_word}
+use Rattle.ios_acl.specs.Grammar.{IsEntry, IsRemark, IsSentence}
 use Rattle.ios_acl.specs.Grammar.{entry as of_entry, remark as of_remark}
 use Rattle.ios_acl.specs.List.{AccessList, has_number}
 use Rattle.ios_acl.specs.Reading.{IsOpened, IsTaken, IsRefused, Reads, Sentence}
@@ -19,6 +20,7 @@ use Rattle.ios_acl.specs.Faults.{IsFault, IsFor, stop_reason}
 use Rattle.ios_acl.specs.Adding.{Adds, CannotAdd, with_number}
 use Rattle.ios_acl.specs.Adding as adding
 use Rattle.ios_acl.proofs.Insertion.{spelled_numbered}
+use Rattle.ios_acl.proofs.OneEntry.{entry_begins}
 
 pub sentence_entry : (extended backward : Bool) (words : Words) (entry : Entry) → IsSentence extended backward words (Some entry) → IsEntry extended backward entry words
 sentence_entry extended backward words entry (of_entry _ h) = h
@@ -26,21 +28,13 @@ sentence_entry extended backward words entry (of_entry _ h) = h
 pub sentence_remark : (extended backward : Bool) (words : Words) → IsSentence extended backward words None → IsRemark words
 sentence_remark extended backward words (of_remark h) = h
 
-begins_with_verdict : (extended backward : Bool) (entry : Entry) (words : Words) → IsEntry extended backward entry words → (more : Words) × (words ≡ verdict_word entry.verdict ∷ more)
-begins_with_verdict true backward entry words h = (h.back, rw (h.whole, h.first))
-begins_with_verdict false backward entry words h = (h.back, rw (h.whole, h.first))
-
-false_unless : (b : Bool) → (b ≡ true → ⊥) → b ≡ false
-false_unless true not = absurd (not refl)
-false_unless false not = refl
-
 -- the number before an entry is free where it is not taken
 pub number_is_free : (extended : Bool) (entries : List Entry) (number : Option ℕ) (rest : Words) (entry : Entry) → (IsTaken entries number rest → ⊥)
     → IsSentence extended false rest (Some entry) → IfSome number (λ n. has_number entries n ≡ false)
 number_is_free extended entries None rest entry free h = tt
 number_is_free extended entries (Some n) rest entry free h =
-    let begins = begins_with_verdict extended false entry rest (sentence_entry extended false rest entry h) in
-    false_unless (has_number entries n)
+    let begins = entry_begins extended false entry rest (sentence_entry extended false rest entry h) in
+    false_from_ne_true (has_number entries n)
     (λ has. free (record { n = n; verdict = entry.verdict; more = begins.0; given = refl; has = has; begins = begins.1 }))
 
 refused_before : (list : AccessList) (words : Words) (number : Option ℕ) (rest front back : Words) (stop : Stop) → IsOpened words number rest → (IsTaken list.entries number rest → ⊥)

@@ -1,9 +1,6 @@
 -- Words are cut in one way where the words of the first part show where it ends.
-use Rattle.std.proofs.Common.{◌≡◌, ℕ, false, List, [], ◌∷◌, ◌++◌, sym, ap, ◌∙◌}
-use Rattle.std.specs.Str.{bytes_eq}
+use Rattle.std.proofs.Common.{◌≡◌, ℕ, List, [], ◌∷◌, ◌++◌, sym, ap, ◌∙◌}
 use Rattle.std.proofs.lemmas.List.{append_cancel_left, append-nil}
-use Rattle.std.proofs.lemmas.Bool.{iff_false}
-use Rattle.std.proofs.lemmas.Slice.Eq.{bytes_eq-Decides}
 use Rattle.ios_acl.specs.Phrases.{Words}
 use Rattle.ios_acl.proofs.Stopping.{IsPrefixFree}
 
@@ -35,7 +32,3 @@ prefix_free_from_one Part one words more first second =
 
 pub same_first : (word other : List ℕ) (words others : Words) → word ∷ words ≡ other ∷ others → word ≡ other
 same_first word other words others same = cc
-
--- words that a test tells apart; of two keywords it is `refl`
-pub words_differ : (word other : List ℕ) → bytes_eq word other ≡ false → word ≡ other → ⊥
-words_differ word other differ same = iff_false (bytes_eq-Decides word other) differ same

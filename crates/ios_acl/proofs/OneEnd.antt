@@ -1,43 +1,17 @@
 -- The parts of a line that may be left out show where they end by what stands behind them.
-use Rattle.std.proofs.Common.{◌≡◌, inr, ℕ, Bool, true, false, List, [], ◌∷◌, ◌++◌, Option, Some, None, refl, sym, ap, ◌∙◌, codes}
+use Rattle.std.proofs.Common.{◌≡◌, inl, inr, ℕ, Bool, true, false, List, [], ◌∷◌, ◌++◌, Option, Some, None, refl, sym, ap, ◌∙◌, codes}
 use Rattle.ios_lex.specs.Address.{IsAddress}
-use Rattle.ios_lex.specs.Decimal.{IsNumber}
 use Rattle.ios_lex.specs.Names.{IsMessage}
 use Rattle.ios_lex.proofs.AddressParts.{address_is_one}
 use Rattle.ios_lex.proofs.Spellings.{message_is_one, number_is_one}
 use Rattle.ios_acl.specs.declared.entry.Ports.{Ports}
 use Rattle.ios_acl.specs.Phrases.{Words, Then}
-use Rattle.ios_acl.specs.Refusal.{begins_with_digit}
 use Rattle.ios_acl.specs.Grammar.{IsPlace, IsSource, ArePorts, ArePortsOf, AreMessages, AreMessagesOf, IsEstablishedOf, IsLog, with_ports}
 use Rattle.ios_acl.specs.Parts.{IsEnd}
-use Rattle.ios_acl.proofs.WordForms.{numeral_digit, number_word, no_log_message, no_log_input_message}
-use Rattle.ios_acl.proofs.OneCut.{IsOneCutBefore, same_cut, same_first, words_differ}
+use Rattle.ios_acl.proofs.LogWords.{log_text, no_log_address, no_log_number, no_log_message}
+use Rattle.ios_acl.proofs.WordForms.{number_word, words_differ}
+use Rattle.ios_acl.proofs.OneCut.{IsOneCutBefore, same_cut, same_first}
 use Rattle.ios_acl.proofs.OnePart.{no_address_keyword, pair_is_one, place_is_one, ports_are_one, ports_begin, no_key_ports}
-
--- a word that is none on logging does not stand at the end
-pub no_log_next : (extended : Bool) (words : Words) (word : List ℕ) (more : Words) → IsLog extended words → words ≡ word ∷ more
-    → (word ≡ codes "log" → ⊥) → (word ≡ codes "log-input" → ⊥) → ⊥
-no_log_next extended words word more (IsLog.none whole) same no_log no_input = cc
-no_log_next extended words word more (IsLog.log whole) same no_log no_input = no_log (same_first word (codes "log") more [] (sym same ∙ whole))
-no_log_next extended words word more (IsLog.input is whole) same no_log no_input = no_input (same_first word (codes "log-input") more [] (sym same ∙ whole))
-
-pub no_log_address : (extended : Bool) (words : Words) (word : List ℕ) (more : Words) (n : ℕ) → IsLog extended words → words ≡ word ∷ more → IsAddress word n → ⊥
-no_log_address extended words word more n behind same address =
-    no_log_next extended words word more behind same
-    (λ is. no_address_keyword word (codes "log") n refl is address)
-    (λ is. no_address_keyword word (codes "log-input") n refl is address)
-
-no_number_keyword : (max : ℕ) (word key : List ℕ) (n : ℕ) → begins_with_digit key ≡ false → word ≡ key → IsNumber max word n → ⊥
-no_number_keyword max word key n letter is number =
-    let digit = numeral_digit word (number_word max word n number) in
-    let digit' : begins_with_digit key ≡ true = rw (← is) digit in
-    cc
-
-pub no_log_number : (extended : Bool) (words : Words) (max : ℕ) (word : List ℕ) (more : Words) (n : ℕ) → IsLog extended words → words ≡ word ∷ more → IsNumber max word n → ⊥
-no_log_number extended words max word more n behind same number =
-    no_log_next extended words word more behind same
-    (λ is. no_number_keyword max word (codes "log") n refl is number)
-    (λ is. no_number_keyword max word (codes "log-input") n refl is number)
 
 -- behind a source stands at most a word on logging, which is no wildcard
 no_single_place : (place : ℕ × ℕ) (n : ℕ) (word : List ℕ) (p r s : Words) → IsPlace place p → IsAddress word n → IsLog false s → p ++ r ≡ word ∷ s → ⊥
@@ -48,7 +22,7 @@ no_single_place place n word p r s (IsPlace.host w whole a z) address behind sam
 no_single_place place n word p r s (IsPlace.some w o whole a b) address behind same =
     let e = rw whole at same in
     let f : s ≡ o ∷ r = cc in
-    no_log_address false s o r place.1 behind f b
+    no_log_address false o r place.1 (rw f at behind) b
 
 pub source_is_one : IsOneCutBefore (IsLog false) IsSource
 source_is_one v u p q r s (IsSource.place is) (IsSource.place is') behind behind' same = place_is_one v u p q r s is is' same
@@ -129,9 +103,7 @@ begins_message message words (AreMessages.code w o n whole number number' is) =
 no_log_messages : (message : ℕ × Option ℕ) (words q s : Words) → IsLog true words → AreMessages message q → words ≡ q ++ s → ⊥
 no_log_messages message words q s behind are same =
     let begin = begins_message message q are in
-    no_log_next true words begin.word (begin.more ++ s) behind (rw begin.whole at same)
-    (λ is. no_log_message begin.message (rw is at begin.names))
-    (λ is. no_log_input_message begin.message (rw is at begin.names))
+    no_log_message true begin.word (begin.more ++ s) begin.message (rw (rw begin.whole at same) at behind) begin.names
 
 pub messages_are_one : IsOneCutBefore (IsLog true) AreMessages
 messages_are_one v u p q r s (AreMessages.one w whole names) (AreMessages.one w' whole' names') behind behind' same =
@@ -141,11 +113,11 @@ messages_are_one v u p q r s (AreMessages.one w whole names) (AreMessages.one w'
 messages_are_one v u p q r s (AreMessages.one w whole names) (AreMessages.code w' o n whole' number number' is) behind behind' same =
     let e = rw (whole, whole') at same in
     let f : r ≡ o ∷ s = cc in
-    absurd (no_log_number true r 255 o s n behind f number')
+    absurd (no_log_number true o s (rw f at behind) (number_word 255 o n number'))
 messages_are_one v u p q r s (AreMessages.code w o n whole number number' is) (AreMessages.one w' whole' names') behind behind' same =
     let e = rw (whole, whole') at same in
     let f : s ≡ o ∷ r = cc in
-    absurd (no_log_number true s 255 o r n behind' f number')
+    absurd (no_log_number true o r (rw f at behind') (number_word 255 o n number'))
 messages_are_one (t, c) (t', c') p q r s (AreMessages.code w o n whole number code is) (AreMessages.code w' o' n' whole' number' code' is') behind behind' same =
     let e = rw (whole, whole') at same in
     let f : w' ≡ w = cc in
@@ -167,7 +139,10 @@ messages_of_are_one proto v u p q r s (AreMessagesOf.some m has are is) (AreMess
 
 no_log_established : (words more : Words) → IsLog true words → words ≡ codes "established" ∷ more → ⊥
 no_log_established words more behind same =
-    no_log_next true words (codes "established") more behind same (words_differ (codes "established") (codes "log") refl) (words_differ (codes "established") (codes "log-input") refl)
+    elim (log_text true (codes "established") more (rw same at behind)) [
+      | inl is ↦ words_differ (codes "established") (codes "log") refl is
+      | inr is ↦ words_differ (codes "established") (codes "log-input") refl is
+    ]
 
 pub established_is_one : (proto : Option ℕ) → IsOneCutBefore (IsLog true) (IsEstablishedOf proto)
 established_is_one proto v u p q r s (IsEstablishedOf.none whole is) (IsEstablishedOf.none whole' is') behind behind' same =

@@ -8,8 +8,8 @@ use Rattle.ios_acl.specs.Phrases.{Words}
 use Rattle.ios_acl.specs.Refusal.{begins_with_digit, is_among}
 use Rattle.ios_acl.specs.Grammar.{IsPlace, IsProto, ArePorts, ports_below, ports_above}
 use Rattle.ios_acl.specs.Parts.{port_words}
-use Rattle.ios_acl.proofs.WordForms.{address_digit, no_ip_protocol}
-use Rattle.ios_acl.proofs.OneCut.{IsOneCut, same_cut, same_first, words_differ}
+use Rattle.ios_acl.proofs.WordForms.{address_digit, no_ip_protocol, words_differ}
+use Rattle.ios_acl.proofs.OneCut.{IsOneCut, same_cut, same_first}
 
 -- a word that begins with no digit is no address
 pub no_address_keyword : (word key : List ℕ) (n : ℕ) → begins_with_digit key ≡ false → word ≡ key → IsAddress word n → ⊥

@@ -1,15 +1,13 @@
 -- Words of printed bytes, numbers and addresses among them.
-use Rattle.std.proofs.Common.{◌≡◌, ℕ, ◌/◌, ◌%◌, ◌^◌, ◌<◌, ◌≤◌, ◌==◌, ◌&&◌, nat_le, not, Bool, true, List, [], ◌∷◌, ◌++◌, length, refl, sym, ◌∙◌, length-append, arith}
+use Rattle.std.proofs.Common.{◌≡◌, ℕ, ◌/◌, ◌%◌, ◌^◌, ◌<◌, ◌≤◌, ◌==◌, ◌&&◌, nat_le, not, Bool, true, List, [], ◌∷◌, ◌++◌, length, refl, ◌∙◌, length-append, arith}
 use Rattle.std.specs.Fmt.{decimal}
 use Rattle.std.specs.List.{list_all}
 use Rattle.std.specs.Str.Parse.{AllDigits}
 use Rattle.std.proofs.lemmas.Bool.{and_parts, and_from, le-leb, ne_eqb}
-use Rattle.std.proofs.lemmas.Fmt.{decimal_is_IsNumeral, length-decimal-le, decimal_nonempty}
+use Rattle.std.proofs.lemmas.Fmt.{decimal_is_IsNumeral, decimal_nonempty}
 use Rattle.std.proofs.lemmas.List.Folds.{list_all-append}
 use Rattle.std.proofs.lemmas.Str.Parse.{digit_from_value}
-use Rattle.ios_lex.specs.Decimal.{IsByte, IsNumber}
-use Rattle.ios_lex.specs.Address.{IsAddress}
-use Rattle.ios_acl.specs.Spelling.{dotted}
+use Rattle.ios_lex.specs.Address.{dotted}
 
 abbrev pub is_printed : ℕ → Bool
 is_printed byte = nat_le 33 byte && nat_le byte 126
@@ -67,52 +65,3 @@ dotted_plain n small =
   where
     some : 0 < length (dotted n)
     some = append_some (decimal (n / 2 ^ 24)) _ (decimal_nonempty (n / 2 ^ 24) (omega arith))
-
--- a number is spelled by its decimal digits
-pub decimal_number : (max n : ℕ) → n < 10 ^ 10 → n ≤ max → IsNumber max (decimal n) n
-decimal_number max n small within =
-    let numeral = decimal_is_IsNumeral n (omega arith) in
-    record {
-      decimal = record {
-        digits = numeral.0;
-        few = length-decimal-le 10 n (omega arith) small (omega arith);
-        value = sym numeral.1;
-      };
-      within = within;
-    }
-
-decimal_byte : (n : ℕ) → n ≤ 255 → IsByte (decimal n) n
-decimal_byte n within =
-    let numeral = decimal_is_IsNumeral n (omega arith) in
-    record {
-      decimal = record {
-        digits = numeral.0;
-        few = length-decimal-le 3 n (omega arith) (omega arith) (omega arith);
-        value = sym numeral.1;
-      };
-      within = within;
-    }
-
--- an address is spelled by its four bytes
-pub dotted_address : (n : ℕ) → n < 2 ^ 32 → IsAddress (dotted n) n
-unfolding dotted
-dotted_address n small = record {
-  first = decimal (n / 2 ^ 24);
-  second = decimal (n / 2 ^ 16 % 256);
-  third = decimal (n / 2 ^ 8 % 256);
-  fourth = decimal (n % 256);
-  a = n / 2 ^ 24;
-  b = n / 2 ^ 16 % 256;
-  c = n / 2 ^ 8 % 256;
-  d = n % 256;
-  spelled = refl;
-  first_byte = decimal_byte (n / 2 ^ 24) (omega arith);
-  second_byte = decimal_byte (n / 2 ^ 16 % 256) (omega arith);
-  third_byte = decimal_byte (n / 2 ^ 8 % 256) (omega arith);
-  fourth_byte = decimal_byte (n % 256) (omega arith);
-  value = omega arith;
-}
-
--- and each address is less than 2 ^ 32
-pub address_small : (word : List ℕ) (n : ℕ) → IsAddress word n → n < 2 ^ 32
-address_small word n is = omega (arith, is.value, is.first_byte.within, is.second_byte.within, is.third_byte.within, is.fourth_byte.within)

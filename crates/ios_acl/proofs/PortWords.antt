@@ -16,7 +16,8 @@ use Rattle.ios_acl.specs.Following.{Begins, MayFollow, IsExpected, IsAddressWord
 use Rattle.ios_acl.specs.Refusal.{is_among}
 use Rattle.ios_acl.specs.Stops.{expecting, expected_of, StopsBefore, IsStop, BeginsWith}
 use Rattle.ios_acl.specs.Parts.{IsPortOf, SomePort, SomePortFrom, SomePorts, port_words}
-use Rattle.ios_acl.proofs.Stopping.{IsFirstPart, IsPrefixFree, stop_first, stop_behind, stop_within}
+use Rattle.ios_acl.proofs.Stopping.{IsFirstPart, stop_first, stop_behind, stop_within}
+use Rattle.ios_acl.proofs.PrefixFree.{port_prefix_free}
 use Rattle.ios_acl.proofs.WordForms.{number_word, no_address_port}
 
 -- the greatest port ends each range
@@ -189,7 +190,7 @@ stop_one_port tcp first rest stop other one stops = stop_behind (SomePorts tcp) 
 stop_first_of_range : (tcp : Bool) (rest : Words) (stop : Stop) → (expected_of stop.due).whole ≡ false
     → IsStop (SomePort tcp) rest stop → IsStop (SomePorts tcp) (codes "range" ∷ rest) stop
 stop_first_of_range tcp rest stop part stops =
-    stop_behind (SomePorts tcp) (IsRange tcp) (codes "range" ∷ rest) (codes "range" ∷ []) rest stop refl same (stop_within (SomePort tcp) (IsRange tcp) rest stop first free (λ x m. m) part stops)
+    stop_behind (SomePorts tcp) (IsRange tcp) (codes "range" ∷ rest) (codes "range" ∷ []) rest stop refl same (stop_within (SomePort tcp) (IsRange tcp) rest stop first (port_prefix_free tcp) (λ x m. m) part stops)
   where
     same : (b : Bool) (x : Words) → SomePorts tcp b (codes "range" ∷ x) ↔ IsRange tcp b x
     same b x = (λ m. range_behind tcp b m.0 x m.1, range_from tcp b x)
@@ -214,9 +215,6 @@ stop_first_of_range tcp rest stop part stops =
 
     first : (b : Bool) → IsFirstPart (SomePort tcp b) (IsRange tcp b)
     first b = record { goes_on = goes_on b; splits = splits b }
-
-    free : (b : Bool) → IsPrefixFree (SomePort tcp b)
-    free b words more m n = let two = rw m.1.1 at n.1.1 in cc two
 
 pub stop_in_port : (tcp : Bool) (first : List ℕ) (rest : Words) (stop : Stop) → is_among port_words first ≡ true → (expected_of stop.due).whole ≡ false
     → IsStop (SomePort tcp) rest stop → IsStop (SomePorts tcp) (first ∷ rest) stop
@@ -300,37 +298,6 @@ no_ports_nowhere tcp b m = by_case m.1
     by_case (ArePorts.lt word p whole is value) = cc whole
     by_case (ArePorts.gt word p whole is value) = cc whole
     by_case (ArePorts.range word other p q whole is is' order value) = cc whole
-
--- no one word goes on as one, and no two as two
-one_word_free : (words more : Words) (word word' : List ℕ) → words ≡ word ∷ [] → words ++ more ≡ word' ∷ [] → more ≡ []
-one_word_free words more word word' one longer = let whole = rw one at longer in cc whole
-
-two_words_free : (words more : Words) (word other word' other' : List ℕ) → words ≡ word ∷ other ∷ [] → words ++ more ≡ word' ∷ other' ∷ [] → more ≡ []
-two_words_free words more word other word' other' two longer = let whole = rw two at longer in cc whole
-
--- no test goes on as another
-pub ports_prefix_free : (tcp b : Bool) → IsPrefixFree (SomePorts tcp b)
-ports_prefix_free tcp b [] more test longer = absurd (no_ports_nowhere tcp b test)
-ports_prefix_free tcp b (word ∷ x) more test longer = by_word (test_word word (lacks_test tcp b word x test))
-  where
-    one_port : (word ≡ codes "range" → ⊥) → more ≡ []
-    one_port other =
-        let port = port_behind tcp b test.0 word x other test.1 in
-        let port' = port_behind tcp b longer.0 word (x ++ more) other longer.1 in
-        one_word_free x more port.1.0 port'.1.0 port.1.1 port'.1.1
-
-    two_ports : word ≡ codes "range" → more ≡ []
-    two_ports same =
-        let ends = range_behind tcp b test.0 x (rw same at test.1) in
-        let ends' = range_behind tcp b longer.0 (x ++ more) (rw same at longer.1) in
-        two_words_free x more ends.word ends.other ends'.word ends'.other ends.whole ends'.whole
-
-    by_word : IsTestWord word → more ≡ []
-    by_word (IsTestWord.eq same) = one_port (λ e. let no = rw same at e in cc no)
-    by_word (IsTestWord.neq same) = one_port (λ e. let no = rw same at e in cc no)
-    by_word (IsTestWord.lt same) = one_port (λ e. let no = rw same at e in cc no)
-    by_word (IsTestWord.gt same) = one_port (λ e. let no = rw same at e in cc no)
-    by_word (IsTestWord.range same) = two_ports same
 
 -- what is a test is one where ranges may be backward
 pub more_ports : (tcp : Bool) (x : Words) → SomePorts tcp false x → SomePorts tcp true x

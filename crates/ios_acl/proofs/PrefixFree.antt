@@ -1,14 +1,12 @@
 -- The parts of a line from whose words nothing goes on.
 use Rattle.std.proofs.Common.{◌≡◌, ℕ, Bool, List, [], ◌∷◌, ◌++◌, Option, subst, sym, ap, ◌∙◌}
 use Rattle.ios_acl.specs.Phrases.{Words}
-use Rattle.ios_acl.specs.Grammar.{IsVerdict, IsPlace, IsProto, ArePorts}
-use Rattle.ios_acl.specs.Parts.{SomeAddress, SomePlace, SomeProto, SomePort, SomePortFrom, SomePorts, SomePortsOf}
-use Rattle.ios_acl.specs.declared.entry.Verdict.{Verdict}
+use Rattle.ios_acl.specs.Grammar.{IsPlace, IsProto, ArePorts}
+use Rattle.ios_acl.specs.Parts.{SomeAddress, SomePlace, SomeProto, SomePort, SomePorts, SomePortsOf}
 use Rattle.ios_acl.proofs.Stopping.{IsPrefixFree}
 use Rattle.ios_acl.proofs.OneCut.{prefix_free_from_one}
 use Rattle.ios_acl.proofs.OnePart.{place_is_one, proto_is_one, ports_are_one}
 use Rattle.ios_acl.proofs.OneEnd.{tcp_is_one}
-use Rattle.ios_acl.proofs.OneEntry.{verdict_is_one}
 
 -- single words are such a part
 pub single_word_prefix_free : (Kind : Words → Type 0) → ((words : Words) → Kind words → (word : List ℕ) × (words ≡ word ∷ [])) → IsPrefixFree Kind
@@ -23,12 +21,6 @@ address_prefix_free b = single_word_prefix_free (SomeAddress b) (λ words is. (i
 
 pub port_prefix_free : (tcp b : Bool) → IsPrefixFree (SomePort tcp b)
 port_prefix_free tcp b = single_word_prefix_free (SomePort tcp b) (λ words is. (is.1.0, is.1.1))
-
-pub port_from_prefix_free : (tcp : Bool) (first : ℕ) (b : Bool) → IsPrefixFree (SomePortFrom tcp first b)
-port_from_prefix_free tcp first b = single_word_prefix_free (SomePortFrom tcp first b) (λ words is. (is.1.0, is.1.1))
-
-pub verdict_prefix_free : IsPrefixFree (λ words. (v : Verdict) × IsVerdict v words)
-verdict_prefix_free = prefix_free_from_one IsVerdict verdict_is_one
 
 pub place_prefix_free : (b : Bool) → IsPrefixFree (SomePlace b)
 place_prefix_free b = prefix_free_from_one IsPlace place_is_one

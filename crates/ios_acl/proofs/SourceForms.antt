@@ -11,7 +11,8 @@ use Rattle.ios_acl.specs.Stops.{expected_of, BeginsWith, IsStop, LacksFirst}
 use Rattle.ios_acl.specs.Parts.{IsAddressOf, IsWildcardOf, IsWildcardEnd, IsSourceEnd, SomeAddress, SomeWildcardEnd, SomeSourceEnd, SomeLog}
 use Rattle.ios_acl.proofs.FirstStops.{stop_at_address}
 use Rattle.ios_acl.proofs.PlaceForms.{host_read}
-use Rattle.ios_acl.proofs.Stopping.{IsFirstPart, IsPrefixFree, stop_behind, stop_within}
+use Rattle.ios_acl.proofs.PrefixFree.{address_prefix_free}
+use Rattle.ios_acl.proofs.Stopping.{IsFirstPart, stop_behind, stop_within}
 use Rattle.ios_acl.proofs.WildcardForms.{wildcard_none, wildcard_some}
 use Rattle.ios_acl.proofs.WordForms.{other_no_address, other_no_number, no_number_address, zero_address}
 
@@ -140,11 +141,6 @@ host_first_part b = record {
   goes_on = λ words address. ([], (address.0, record { front = words; back = []; whole = refl; first = address.1; second = grammar.none refl }));
   splits = λ words h. (h.1.front, h.1.back, h.1.whole, (h.0, h.1.first));
 }
-
-address_prefix_free : (b : Bool) → IsPrefixFree (SomeAddress b)
-address_prefix_free b words more address longer =
-    let same : address.1.0 ∷ more ≡ longer.1.0 ∷ [] = rw address.1.1 at longer.1.1 in
-    cc
 
 pub source_host_stop : (words rest : Words) (stop : Stop) → words ≡ codes "host" ∷ rest → (expected_of stop.due).whole ≡ false → IsStop SomeAddress rest stop
     → IsStop SomeSourceEnd words stop

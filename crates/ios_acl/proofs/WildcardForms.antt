@@ -10,7 +10,7 @@ use Rattle.ios_acl.specs.Following.{Begins, IsNumberWord, IsMessageName}
 use Rattle.ios_acl.specs.Stops.{IsStop}
 use Rattle.ios_acl.specs.Parts.{IsWildcardOf, IsWildcardEnd, SomeWildcardEnd, SomeLog}
 use Rattle.ios_acl.proofs.FirstStops.{expected, unexpected, stop_at, stop_ahead, lacks_word}
-use Rattle.ios_acl.proofs.LogForms.{plain_log, no_log_address, no_log_number, no_log_name}
+use Rattle.ios_acl.proofs.LogWords.{plain_log, no_log_address, no_log_number, no_log_name}
 use Rattle.ios_acl.proofs.Stopping.{stop_behind}
 use Rattle.ios_acl.proofs.WordForms.{other_no_address, no_number_address, message_name_form, zero_address}
 

@@ -4,9 +4,11 @@ use Rattle.std.specs.Map.{lookup}
 use Rattle.std.specs.Str.{bytes_eq}
 use Rattle.std.specs.Str.Parse.{IsNumeral}
 use Rattle.std.proofs.lemmas.List.{append-nil}
+use Rattle.std.proofs.lemmas.Bool.{iff_false}
 use Rattle.std.proofs.lemmas.Bool.Decides.{nat_tests}
 use Rattle.std.proofs.lemmas.List.Elements.{All-contains}
 use Rattle.std.proofs.lemmas.List.Sums.{AllPass-from_list_all}
+use Rattle.std.proofs.lemmas.Slice.Eq.{bytes_eq-Decides}
 use Rattle.ios_lex.specs.Address.{IsAddress}
 use Rattle.ios_lex.specs.Decimal.{IsByte, IsNumber}
 use Rattle.ios_lex.specs.Names.{protocols, tcp_ports, udp_ports, IsProtocol, IsPort, IsType, IsMessage, icmp_messages}
@@ -16,6 +18,10 @@ use Rattle.ios_lex.proofs.NameTables.{begins_apart, IsNameTable, nothing_spelled
 use Rattle.ios_lex.proofs.Spellings.{protocol_names, port_names, message_names}
 use Rattle.ios_acl.specs.Following.{IsNumberWord, IsMessageName}
 use Rattle.ios_acl.specs.Refusal.{begins_with_digit}
+
+-- words that a test tells apart; of two keywords it is `refl`
+pub words_differ : (word other : List ℕ) → bytes_eq word other ≡ false → word ≡ other → ⊥
+words_differ word other differ same = iff_false (bytes_eq-Decides word other) differ same
 
 -- a word that begins with a numeral begins with a digit
 front_digit : (front rest : List ℕ) → IsNumeral 10 front → begins_with_digit (front ++ rest) ≡ true
@@ -87,13 +93,13 @@ no_message : (word : List ℕ) → lookup (bytes_eq word) icmp_messages ≡ None
 no_message word absent other =
     nothing_spelled icmp_messages IsType message_names word absent (λ message number. other_no_number word other (number_word 255 word message.0 number.0))
 
-pub no_log_message : (message : ℕ × Option ℕ) → IsMessage (codes "log") message → ⊥
+pub log_no_message : (message : ℕ × Option ℕ) → IsMessage (codes "log") message → ⊥
 unfolding icmp_messages
-no_log_message = no_message (codes "log") refl refl
+log_no_message = no_message (codes "log") refl refl
 
-pub no_log_input_message : (message : ℕ × Option ℕ) → IsMessage (codes "log-input") message → ⊥
+pub log_input_no_message : (message : ℕ × Option ℕ) → IsMessage (codes "log-input") message → ⊥
 unfolding icmp_messages
-no_log_input_message = no_message (codes "log-input") refl refl
+log_input_no_message = no_message (codes "log-input") refl refl
 
 pub no_ip_protocol : (n : ℕ) → IsProtocol (codes "ip") n → ⊥
 unfolding protocols

@@ -1,21 +1,22 @@
 -- What is written of a list is a block of it.
-use Rattle.std.proofs.Common.{◌≡◌, ℕ, true, List, [], ◌∷◌, ◌++◌, refl, sym, subst}
-use Rattle.std.specs.List.{All, list_all}
-use Rattle.std.proofs.lemmas.Bool.{and_from}
-use Rattle.std.proofs.lemmas.List.Elements.{All-head, All-tail}
+use Rattle.std.proofs.Common.{◌≡◌, ℕ, ◌==◌, not, true, List, [], ◌∷◌, ◌++◌, refl, sym, subst}
+use Rattle.std.specs.List.{list_all}
+use Rattle.std.proofs.lemmas.Bool.{and_parts, and_from}
 use Rattle.ios_acl.specs.Phrases.{Words}
 use Rattle.ios_acl.specs.List.{AccessList, IsAccessList}
-use Rattle.ios_acl.specs.Block.{IsBlock, IsBlockName, IsNameByte, ReadsAll, empty_list}
-use Rattle.ios_acl.specs.Spelling.{opening_line, entry_lines}
-use Rattle.ios_acl.proofs.PlainWords.{is_printed, plain_from, printed_byte}
+use Rattle.ios_acl.specs.ListNames.{is_name, is_name_byte}
+use Rattle.ios_acl.specs.Block.{IsBlock, IsBlockName, ReadsAll, empty_list}
+use Rattle.ios_acl.specs.Spelling.{opening_line}
+use Rattle.ios_acl.proofs.BlockTexts.{entry_lines}
+use Rattle.ios_acl.proofs.PlainWords.{is_printed, plain_from}
 use Rattle.ios_acl.proofs.BlockLines.{block_lines, first_line, entries_read, opening_read, within_block, block_words}
 use Rattle.ios_acl.proofs.AppendedEntries.{reads_rest}
 
-name_printed : (name : List ℕ) → All IsNameByte name → list_all is_printed name ≡ true
-name_printed [] all = refl
-name_printed (x ∷ xs) all =
-    let byte = All-head IsNameByte x xs all in
-    and_from (is_printed x) (list_all is_printed xs) (printed_byte x byte.0.0 byte.0.1) (name_printed xs (All-tail IsNameByte x xs all))
+name_printed : (name : List ℕ) → is_name name ≡ true → list_all is_printed name ≡ true
+name_printed [] bytes = refl
+name_printed (x ∷ xs) bytes =
+    let parts = and_parts (is_name_byte x) (is_name xs) bytes in
+    and_from (is_printed x) (list_all is_printed xs) (and_parts (is_printed x) (not (x == 34)) parts.0).0 (name_printed xs parts.1)
 
 pub written_block : (list : AccessList) → IsAccessList list → IsBlockName list.extended list.name → IsBlock (opening_line list.extended list.name ++ entry_lines list.extended list.entries) list
 written_block list whole name = record {

@@ -6,7 +6,10 @@ use Rattle.std.specs.List.{list_all}
 use Rattle.std.proofs.lemmas.Bool.{and_parts, and_from, le-leb, leb-true, eqb-true, eqb-false}
 use Rattle.std.proofs.lemmas.List.{append-nil}
 use Rattle.std.proofs.lemmas.List.Folds.{list_all-append}
+use Rattle.ios_lex.specs.Address.{dotted}
 use Rattle.ios_lex.specs.Names.{IsProtocol}
+use Rattle.ios_lex.proofs.AddressTexts.{dotted_address, address_small}
+use Rattle.ios_lex.proofs.DecimalTexts.{decimal_number}
 use Rattle.ios_acl.specs.declared.entry.Entry.{Entry}
 use Rattle.ios_acl.specs.declared.entry.Ports.{Ports}
 use Rattle.ios_acl.specs.declared.entry.Ports.TheVariants as ports
@@ -15,9 +18,9 @@ use Rattle.ios_acl.specs.declared.entry.Verdict.TheVariants as verdict
 use Rattle.ios_acl.specs.Phrases.{Words, Then}
 use Rattle.ios_acl.specs.Grammar.{verdict_word, IsVerdict, IsPlace, IsSource, IsProto, ports_below, ports_above, ArePorts, ArePortsOf, AreMessages, AreMessagesOf, IsEstablishedOf, IsLog, IsStandard, IsExtended, IsEntry}
 use Rattle.ios_acl.specs.List.{IsWritable}
-use Rattle.ios_acl.specs.Spelling.{dotted, place_words, proto_word, range_words, ports_words, code_words, message_words, established_words, match_words, sentence_words, entry_words}
+use Rattle.ios_acl.specs.Spelling.{place_words, proto_word, range_words, ports_words, code_words, message_words, established_words, match_words, sentence_words, entry_words}
 use Rattle.ios_acl.proofs.NameValues.{icmp_is_one, tcp_is_six, udp_is_seventeen, protocol_fits, port_fits, message_fits, is_code, is_message, code_fits, code_within}
-use Rattle.ios_acl.proofs.PlainWords.{is_plain, decimal_plain, dotted_plain, decimal_number, dotted_address, address_small}
+use Rattle.ios_acl.proofs.PlainWords.{is_plain, decimal_plain, dotted_plain}
 
 -- the words are some of the kind, and plain
 record IsSpelled (Kind : Words → Type 0) (words : Words) : Type 0 where

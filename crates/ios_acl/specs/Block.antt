@@ -1,12 +1,11 @@
 -- Named blocks of a configuration: which texts are read as one list (Cisco IOS command references, `ip access-list`).
-use Rattle.std.specs.Prelude.{◌≡◌, ◌≢◌, ◌⊎◌, ℕ, ◌<◌, Bool, true, false, not, List, [], ◌∷◌, length, map, codes}
-use Rattle.std.specs.Int.{IsInRange}
-use Rattle.std.specs.List.{All, AllByRecursion}
-use Rattle.ios_lex.specs.Decimal.{IsNumber}
+use Rattle.std.specs.Prelude.{◌≡◌, ℕ, ◌<◌, Bool, true, false, List, [], ◌∷◌, length, map, codes}
+use Rattle.std.specs.List.{AllByRecursion}
 use Rattle.ios_lex.specs.RawLines.{raw_lines}
 use Rattle.ios_lex.specs.Lines.{Reading, AreLines}
 use Rattle.ios_acl.specs.Phrases.{Words}
 use Rattle.ios_acl.specs.List.{AccessList}
+use Rattle.ios_acl.specs.ListNames.{is_name, FitsName}
 use Rattle.ios_acl.specs.Reading.{Reads}
 
 -- the list becomes `new` when the lines are read one after another
@@ -41,20 +40,8 @@ pub record IsBlock (text : List ℕ) (list : AccessList) : Type 0 where
   pub within : AllByRecursion IsWithinBlock lines
   pub reads : ReadsAll (empty_list list.name list.extended) (map (λ (line : Reading). line.words) lines) list
 
--- the numbers of extended lists, and those of standard ones
-abbrev pub IsListNumber : Bool → ℕ → Type 0
-IsListNumber true n = IsInRange 100 199 n ⊎ IsInRange 2000 2699 n
-IsListNumber false n = IsInRange 1 99 n ⊎ IsInRange 1300 1999 n
-
-abbrev pub greatest_list_number : ℕ
-greatest_list_number = 2699
-
--- a byte that is printed and no blank, and no double quote, 34
-abbrev pub IsNameByte : ℕ → Type 0
-IsNameByte byte = IsInRange 33 126 byte × (byte ≢ 34)
-
--- the name can stand in the line that opens the block of a list of this kind: it is no number of the other kind
+-- the name can stand in the line that opens the block of a list of this kind
 pub record IsBlockName (extended : Bool) (name : List ℕ) : Type 0 where
   pub some : 0 < length name
-  pub bytes : All IsNameByte name
-  pub kind : (n : ℕ) → IsNumber greatest_list_number name n → IsListNumber (not extended) n → ⊥
+  pub bytes : is_name name ≡ true
+  pub fits : FitsName name extended

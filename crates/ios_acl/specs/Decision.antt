@@ -10,7 +10,7 @@ use Rattle.ios_acl.specs.Matching.{matches}
 abbrev pub first_match : List Entry → Packet → Option Entry
 first_match entries packet = find (λ entry. matches entry packet) entries
 
--- an entry gives its verdict and its number, the default neither
+-- an entry gives its verdict and its number; by default the packet is denied, and no number says so
 abbrev pub verdict_by : Option Entry → Verdict × Option ℕ
 verdict_by None = (verdict.Deny, None)
 verdict_by (Some entry) = (entry.verdict, Some entry.number)

@@ -10,5 +10,6 @@ pub mod Stops
 pub mod Parts
 pub mod Faults
 pub mod Adding
+pub mod ListNames
 pub mod Block
 pub mod Spelling

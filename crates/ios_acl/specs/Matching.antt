@@ -5,7 +5,7 @@ use Rattle.ios_acl.specs.declared.entry.Ports.{Ports}
 use Rattle.ios_acl.specs.declared.entry.Ports.TheVariants as ports
 use Rattle.ios_acl.specs.declared.packet.Packet.{Packet}
 
--- the number differs from the address only in bits that are 1 in the wildcard
+-- the number differs from the address only in bits that are 1 in the wildcard; `wildcard_bits` says it bit by bit
 abbrev pub matches_wildcard : ℕ → ℕ → ℕ → Bool
 matches_wildcard x address wildcard = bit_or (bit_xor x address) wildcard == wildcard
 

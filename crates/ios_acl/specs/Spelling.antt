@@ -1,21 +1,14 @@
 -- How a list is written. Private calls are stated by it, and no public one.
-use Rattle.std.specs.Prelude.{ℕ, ◌-◌, ◌/◌, ◌%◌, ◌^◌, ◌==◌, ◌&&◌, Bool, true, false, List, [], ◌∷◌, ◌++◌, Option, Some, None, codes}
+use Rattle.std.specs.Prelude.{ℕ, ◌-◌, ◌^◌, ◌==◌, ◌&&◌, Bool, true, false, List, [], ◌∷◌, ◌++◌, Option, Some, None, codes}
 use Rattle.std.specs.Bool.{if◌then◌else◌}
 use Rattle.std.specs.Fmt.{decimal}
+use Rattle.ios_lex.specs.Address.{dotted}
 use Rattle.ios_acl.specs.declared.entry.Entry.{Entry}
 use Rattle.ios_acl.specs.declared.entry.Ports.{Ports}
 use Rattle.ios_acl.specs.declared.entry.Ports.TheVariants as ports
 use Rattle.ios_acl.specs.Phrases.{Words}
 use Rattle.ios_acl.specs.Grammar.{verdict_word}
 use Rattle.ios_acl.specs.Block.{kind_word}
-
--- the four bytes of an address joined by dots, 46, the heaviest first
-unfoldable pub dotted : ℕ → List ℕ
-dotted address =
-    decimal (address / 2 ^ 24)
-    ++ 46 ∷ (decimal (address / 2 ^ 16 % 256)
-    ++ 46 ∷ (decimal (address / 2 ^ 8 % 256)
-    ++ 46 ∷ decimal (address % 256)))
 
 abbrev pub place_words : ℕ × ℕ → Words
 place_words place =
@@ -79,7 +72,3 @@ opening_line extended name = codes "ip" ++ (behind_blanks (codes "access-list" �
 
 unfoldable pub entry_line : Bool → Entry → List ℕ
 entry_line extended entry = behind_blanks (entry_words extended entry) ++ 10 ∷ []
-
-abbrev pub entry_lines : Bool → List Entry → List ℕ
-entry_lines extended [] = []
-entry_lines extended (entry ∷ entries) = entry_line extended entry ++ entry_lines extended entries

@@ -1,4 +1,4 @@
-ghost use Rattle.std.specs.Prelude.{◌≡◌, ◌<◌, ◌↔◌, [], length, IsTrue, OnOk, OnErr, IfErr};
+ghost use Rattle.std.specs.Prelude.{◌≡◌, ◌<◌, ◌↔◌, [], length, IsTrue, OnOk, OnErr, IfOk, IfErr};
 ghost use Rattle.ios_acl.specs.Decision.{decision, first_match};
 ghost use Rattle.ios_acl.specs.Faults.{IsFault};
 ghost use Rattle.ios_acl.specs.List.{IsRising};
@@ -10,7 +10,7 @@ use crate::numbers::{is_taken, number_of, opened, place_of};
 use crate::packet::Packet;
 use crate::spelled::sentence;
 use ios_lex::{IosReason, Word};
-use std::alloc::Global;
+use std::alloc::{AllocError, Global};
 use std::marker::Model;
 
 /// How many entries a list may have.
@@ -50,6 +50,17 @@ impl Acl {
             extended,
             entries: Vec::new(alloc),
         }
+    }
+
+    /// The same list once more.
+    pub fn copy(&self, alloc: Global) -> Result<Acl, AllocError>
+        ensures { IfOk result (λ acl. acl ≡ self.now) }
+    {
+        Ok(Acl {
+            name: self.name.copy(alloc)?,
+            extended: self.extended,
+            entries: Vec::from_slice(alloc, self.entries.as_slice())?,
+        })
     }
 
     pub fn name(&self) -> &Word

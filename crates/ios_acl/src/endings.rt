@@ -5,7 +5,7 @@ ghost use Rattle.ios_acl.specs.Parts.{IsCodeEnd, IsConnectionEnd, IsEnd, IsMessa
 
 use crate::entry::Ports;
 use crate::port_tests::ports;
-use crate::stop::{Due, Stop, is, stop_before};
+use crate::stop::{Due, Stop, stop_before};
 use ios_lex::{Word, icmp, number};
 
 /// The words are at their end, but for a word on logging: `log`, and in an extended list `log-input`.
@@ -29,7 +29,7 @@ pub fn end(words: &[Word], extended: bool) -> Result<(), Stop>
 fn is_log(word: &Word, extended: bool) -> bool
     ensures { result ≡ is_log_word extended word.now }
 {
-    is(word, "log") || extended && is(word, "log-input")
+    word.is("log") || extended && word.is("log-input")
 }
 
 /// Whether the words of an extended entry are at their end, or go on with a word on logging.
@@ -90,7 +90,7 @@ fn connection_end(words: &[Word]) -> Result<bool, Stop>
     ensures stop { IfErr result (IsStop SomeConnectionEnd words.now) }
 {
     match words.split_first() {
-        Some((first, rest)) if is(first, "established") => {
+        Some((first, rest)) if first.is("established") => {
             end(rest, true)?;
             Ok(true)
         }

@@ -55,7 +55,8 @@ impl Entry {
 }
 
 impl Ports {
-    fn has(self, port: u16) -> bool
+    /// Whether the port is one of these.
+    pub fn has(self, port: u16) -> bool
         ensures { result ≡ matches_port port self }
     {
         match self {

@@ -6,7 +6,7 @@ ghost use Rattle.ios_acl.specs.Faults.{IsFor, stop_reason};
 ghost use Rattle.ios_acl.specs.Refusal as specs;
 ghost use Rattle.ios_acl.specs.Stops.{expected_of, is_backward};
 
-use crate::stop::{Due, Stop, begins_with_digit, is};
+use crate::stop::{Due, Stop, begins_with_digit};
 use ios_lex::{IosReason, Word};
 use std::alloc::Global;
 
@@ -59,7 +59,7 @@ pub fn fault_of(alloc: Global, number: Option<u32>, words: &[Word], stop: Stop) 
 fn first_fault(alloc: Global, word: &Word) -> AclFault
     ensures { IsFor (specs.first_reason word.now) result }
 {
-    if is(word, "evaluate") || is(word, "dynamic") {
+    if word.is("evaluate") || word.is("dynamic") {
         unmodelled(alloc, word)
     } else {
         AclFault::Refused(IosReason::BadEntry)
@@ -78,7 +78,7 @@ fn fault_at(alloc: Global, word: &Word, due: Due) -> AclFault
 }
 
 /// Whether the word narrows what an entry matches in a way that is not modelled.
-fn is_unmodelled(word: &Word) -> bool
+pub fn is_unmodelled(word: &Word) -> bool
     ensures { result ≡ specs.is_among specs.unmodelled word.now }
 {
     is_among(word, &UNMODELLED)
@@ -89,14 +89,15 @@ fn is_among(word: &Word, texts: &[&str]) -> bool
     ensures { result ≡ list_any (λ text. bytes_eq word.now text.now) texts.now }
 {
     for text in texts {
-        if is(word, text) {
+        if word.is(text) {
             return true;
         }
     }
     false
 }
 
-fn unmodelled(alloc: Global, word: &Word) -> AclFault
+/// The fault of a word that stands for more than is modelled.
+pub fn unmodelled(alloc: Global, word: &Word) -> AclFault
     ensures { IsFor (reason_of.Unmodelled word.now) result }
 {
     match word.copy(alloc) {

@@ -3,7 +3,7 @@
 //! `Acl::decide` says for every packet what the first matching entry in the order of their numbers says, deny by
 //! default, and takes no memory. `Acl::read_line` adds the entry that the words of a line spell, or says why none is
 //! added, and `write_acl` writes a list as words that are read as it.
-//! `margrave_cli` reads its configurations into such lists.
+//! `ios_config` reads the lines of a configuration into such lists.
 #![tactic(auto)]
 
 mod access_list;
@@ -11,6 +11,7 @@ mod endings;
 mod entry;
 mod fault;
 mod laws;
+mod list_names;
 mod numbers;
 mod packet;
 mod places;
@@ -21,8 +22,9 @@ mod written;
 
 pub use access_list::Acl;
 pub use entry::{Entry, Ports, Verdict};
-pub use fault::AclFault;
-pub use laws::one_reading;
+pub use fault::{AclFault, is_unmodelled, unmodelled};
+pub use laws::{established_bits, one_reading, wildcard_bits};
+pub use list_names::{is_foreign, is_name, is_number_of, kind_of, list_number};
 pub use packet::Packet;
 pub use std::alloc::AllocError as NoMemory;
 pub use written::{is_block_name, write_acl};

@@ -4,7 +4,7 @@ ghost use Rattle.ios_acl.specs.Stops.{BeginsWith, expected_of, IsStop};
 ghost use Rattle.ios_acl.specs.Parts.{IsAddressOf, IsSourceEnd, IsWildcardEnd, SomeAddress, SomePlace, SomeSourceEnd, SomeWildcardEnd};
 
 use crate::endings::end;
-use crate::stop::{Due, Stop, is, stop_before};
+use crate::stop::{Due, Stop, stop_before};
 use ios_lex::{Word, address};
 
 /// The address that the words begin with, and the words behind it.
@@ -31,10 +31,10 @@ pub fn place(words: &[Word]) -> Result<((u32, u32), &[Word]), Stop>
     let Some((first, rest)) = words.split_first() else {
         return Err(stop_before(words, Due::Address));
     };
-    if is(first, "any") {
+    if first.is("any") {
         return Ok(((0, u32::MAX), rest));
     }
-    if is(first, "host") {
+    if first.is("host") {
         let (host, rest) = address_next(rest)?;
         return Ok(((host, 0), rest));
     }
@@ -54,11 +54,11 @@ pub fn source_end(words: &[Word]) -> Result<(u32, u32), Stop>
     let Some((first, rest)) = words.split_first() else {
         return Err(stop_before(words, Due::Address));
     };
-    if is(first, "any") {
+    if first.is("any") {
         end(rest, false)?;
         return Ok((0, u32::MAX));
     }
-    if is(first, "host") {
+    if first.is("host") {
         let (host, rest) = address_next(rest)?;
         end(rest, false)?;
         return Ok((host, 0));
@@ -78,7 +78,7 @@ fn wildcard_end(words: &[Word]) -> Result<u32, Stop>
     let Some((first, rest)) = words.split_first() else {
         return Ok(0);
     };
-    if is(first, "log") {
+    if first.is("log") {
         end(words, false)?;
         return Ok(0);
     }

@@ -6,7 +6,7 @@ ghost use Rattle.ios_acl.specs.Stops.{BeginsWith, expected_of, IsStop, LacksFirs
 ghost use Rattle.ios_acl.specs.Parts.{IsPortOf, port_words, SomePort, SomePortFrom, SomePorts};
 
 use crate::entry::Ports;
-use crate::stop::{Due, Stop, is, stop_before};
+use crate::stop::{Due, Stop, stop_before};
 use ios_lex::{Word, port};
 
 /// The port that the words begin with, and the words behind it.
@@ -69,7 +69,7 @@ fn above(port: u16) -> Ports
 fn begins_test(word: &Word) -> bool
     ensures { result ≡ is_among port_words word.now }
 {
-    is(word, "eq") || is(word, "neq") || is(word, "lt") || is(word, "gt") || is(word, "range")
+    word.is("eq") || word.is("neq") || word.is("lt") || word.is("gt") || word.is("range")
 }
 
 /// The test of ports that the words begin with, and the words behind it.
@@ -81,13 +81,13 @@ fn port_test<'a>(first: &Word, rest: &'a [Word], tcp: bool) -> Result<(Ports, &'
     ensures later { IfErr result (λ stop. stop.left ≤ length rest.now) }
 {
     let (low, others) = port_next(rest, tcp)?;
-    if is(first, "eq") {
+    if first.is("eq") {
         Ok((Ports::Within(low, low), others))
-    } else if is(first, "neq") {
+    } else if first.is("neq") {
         Ok((Ports::Not(low), others))
-    } else if is(first, "lt") {
+    } else if first.is("lt") {
         Ok((below(low), others))
-    } else if is(first, "gt") {
+    } else if first.is("gt") {
         Ok((above(low), others))
     } else {
         let (high, others) = port_from(others, tcp, low)?;

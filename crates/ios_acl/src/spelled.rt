@@ -8,7 +8,7 @@ use crate::endings::options;
 use crate::entry::{Entry, Ports, Verdict};
 use crate::places::{place, source_end};
 use crate::port_tests::ports;
-use crate::stop::{Due, Stop, is, stop_before};
+use crate::stop::{Due, Stop, stop_before};
 use ios_lex::{Word, protocol};
 
 /// The verdict that the word is.
@@ -32,7 +32,7 @@ fn proto_next(words: &[Word]) -> Result<(Option<u8>, &[Word]), Stop>
     let Some((first, rest)) = words.split_first() else {
         return Err(stop_before(words, Due::Number));
     };
-    if is(first, "ip") {
+    if first.is("ip") {
         return Ok((None, rest));
     }
     let Some(proto) = protocol(first.bytes()) else {
@@ -108,7 +108,7 @@ pub fn sentence(words: &[Word], extended: bool) -> Result<Option<Entry>, Stop>
     let Some((first, rest)) = words.split_first() else {
         return Err(stop_before(words, Due::Verdict));
     };
-    if is(first, "remark") {
+    if first.is("remark") {
         return Ok(None);
     }
     let Some(verdict) = verdict_of(first) else {

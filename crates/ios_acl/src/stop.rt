@@ -1,5 +1,4 @@
 ghost use Rattle.std.specs.Prelude.{◌≡◌, length};
-ghost use Rattle.std.specs.Str.{bytes_eq};
 ghost use Rattle.ios_acl.specs.Refusal as specs;
 
 use ios_lex::Word;
@@ -41,13 +40,6 @@ pub fn stop_before(words: &[Word], due: Due) -> Stop
         due,
         left: words.len(),
     }
-}
-
-/// Whether the word is this text.
-pub fn is(word: &Word, text: &str) -> bool
-    ensures { result ≡ bytes_eq word.now text.now }
-{
-    word.bytes() == text.as_bytes()
 }
 
 /// Whether the word begins with a decimal digit.

@@ -235,6 +235,8 @@ fn tests_of_ports_match_these_and_no_others(rt: HostRuntime) -> Result<(), Fail>
 
 #[test]
 fn every_condition_of_an_entry_counts(rt: HostRuntime) -> Result<(), Fail> {
+    wildcard_bits();
+    established_bits();
     let line = "deny tcp any neq 5 host 0.0.0.7 range 80 81 established";
     let entry = entry_of(&rt, rt.alloc(), true, line)?;
     assert!(rt; entry.verdict == Verdict::Deny && entry.proto == Some(6));
@@ -285,6 +287,18 @@ fn entries_stand_in_the_order_of_their_numbers(rt: HostRuntime) -> Result<(), Fa
     assert!(rt; acl.name().bytes() == b"100".as_slice());
     assert!(rt; acl.decide(&segment(1, 2, 0)) == (Verdict::Permit, Some(10)));
     one_reading();
+    Ok(())
+}
+
+#[test]
+fn a_copy_is_the_same_list(rt: HostRuntime) -> Result<(), Fail> {
+    let mut acl = Acl::new(rt.alloc(), Word::of(rt.alloc(), b"100")?, true);
+    for line in ["permit tcp any any eq www", "5 deny udp any any"] {
+        read(&rt, &mut acl, rt.alloc(), line, "read")?;
+    }
+    let copy = acl.copy(rt.alloc())?;
+    assert!(rt; copy.entries() == acl.entries() && copy.entries().len() == 2);
+    assert!(rt; copy.name().bytes() == b"100".as_slice() && copy.is_extended());
     Ok(())
 }
 

@@ -1,19 +1,16 @@
-ghost use Rattle.std.specs.Prelude.{◌≡◌, ◌↔◌, ◌∷◌, ℕ, [], ◌++◌, not, IfOk, IsTrue};
+ghost use Rattle.std.specs.Prelude.{◌≡◌, ◌↔◌, ◌∷◌, [], ◌++◌, IfOk, IsTrue};
 ghost use Rattle.std.specs.Fmt.{decimal};
-ghost use Rattle.std.specs.List.{All};
-ghost use Rattle.ios_lex.specs.Decimal.{IsNumber};
+ghost use Rattle.ios_lex.specs.Address.{dotted};
 ghost use Rattle.ios_acl.specs.Block as specs;
 ghost use Rattle.ios_acl.specs.Grammar as grammar;
-ghost use Rattle.ios_acl.specs.Block.{greatest_list_number, IsBlock, IsBlockName, IsListNumber, IsNameByte};
-ghost use Rattle.ios_acl.specs.Spelling.{behind_blanks, dotted, entry_line, established_words, match_words, message_words, opening_line, place_words, ports_words, proto_word, range_words};
+ghost use Rattle.ios_acl.specs.Block.{IsBlock, IsBlockName};
+ghost use Rattle.ios_acl.specs.Spelling.{behind_blanks, entry_line, established_words, match_words, message_words, opening_line, place_words, ports_words, proto_word, range_words};
 
 use crate::access_list::Acl;
 use crate::entry::{Entry, Ports, Verdict};
-use ios_lex::number;
+use crate::list_names::{is_name, is_number_of};
+use ios_lex::Dotted;
 use std::alloc::{AllocError, Global};
-
-/// The greatest number of a list.
-const GREATEST_LIST_NUMBER: u64 = 2699;
 
 /// Writes the list as a named block of a configuration, which is read as this list: a line `ip access-list`, the kind
 /// and the name, and an indented line for each entry, its number first.
@@ -35,45 +32,7 @@ pub fn write_acl(alloc: Global, acl: &Acl) -> Result<Vec<u8>, AllocError>
 pub fn is_block_name(name: &[u8], extended: bool) -> bool
     ensures { IsTrue result ↔ IsBlockName extended name.now }
 {
-    !name.is_empty() && are_name_bytes(name) && !is_other_number(name, extended)
-}
-
-fn are_name_bytes(name: &[u8]) -> bool
-    ensures { IsTrue result ↔ All IsNameByte name.now }
-{
-    for byte in name {
-        if !is_name_byte(*byte) {
-            return false;
-        }
-    }
-    true
-}
-
-fn is_name_byte(byte: u8) -> bool
-    ensures { IsTrue result ↔ IsNameByte byte }
-{
-    matches!(byte, 33..=126) && byte != b'"'
-}
-
-/// Whether the name is a number of a list of the other kind.
-fn is_other_number(name: &[u8], extended: bool) -> bool
-    ensures { IsTrue result ↔ ((n : ℕ) × IsNumber greatest_list_number name.now n × IsListNumber (not extended) n) }
-{
-    match number(name, GREATEST_LIST_NUMBER) {
-        Some(n) => is_list_number(n, !extended),
-        None => false,
-    }
-}
-
-/// Whether a list of this kind may have this number (Cisco IOS command references, `access-list`).
-fn is_list_number(n: u64, extended: bool) -> bool
-    ensures { IsTrue result ↔ IsListNumber extended n }
-{
-    if extended {
-        matches!(n, 100..=199 | 2000..=2699)
-    } else {
-        matches!(n, 1..=99 | 1300..=1999)
-    }
+    !name.is_empty() && is_name(name) && !is_number_of(name, !extended)
 }
 
 /// Writes the line that opens the block.
@@ -231,11 +190,8 @@ fn push_established(text: &mut Vec<u8>, established: bool) -> Result<(), AllocEr
 fn push_address(alloc: Global, text: &mut Vec<u8>, address: u32) -> Result<(), AllocError>
     ensures { IfOk result (λ _. text.new.items ≡ text.old.items ++ behind_blanks (dotted address ∷ [])) }
 {
-    let first = address / 0x100_0000;
-    let second = address / 0x1_0000 % 256;
-    let third = address / 0x100 % 256;
-    let fourth = address % 256;
-    let word = format!(in alloc; "{first}.{second}.{third}.{fourth}")?;
+    let address = Dotted(address);
+    let word = format!(in alloc; "{address}")?;
     push_word(text, word.as_bytes())
 }
 

@@ -6,9 +6,10 @@ use Rattle.std.proofs.lemmas.Option.{get_or_from_slice_get}
 use Rattle.ios_lex.specs.declared.reason.IosReason.TheVariants as ios
 use Rattle.ios_acl.specs.Block.{kind_word}
 use Rattle.ios_acl.specs.List.{AccessList}
+use Rattle.ios_acl.specs.ListNames.{FitsName}
 use Rattle.ios_acl.specs.Phrases.{Words}
 use Rattle.ios_config.specs.Router.{Draft, list_named, with_list}
-use Rattle.ios_config.specs.Line.{Takes, FitsName, FitsLists, IsBlockRefused}
+use Rattle.ios_config.specs.Line.{Takes, FitsLists, IsBlockRefused}
 use Rattle.ios_config.specs.Line as line_of
 use Rattle.ios_config.specs.Taking.{place_named, name_in, IsFirstOfName, IsBegun, IsHead, TakesBehind}
 use Rattle.ios_config.proofs.Places.{name_of_named}

@@ -1,5 +1,4 @@
-pub mod ListNumbers
-pub mod Absence
+pub mod AclFaults
 pub mod Places
 pub mod BlockEntries
 pub mod NumberedLines
@@ -12,3 +11,4 @@ pub mod Refusals
 pub mod LineOutcomes
 pub mod OneLine
 pub mod OneConfig
+pub mod SomeReading

@@ -8,11 +8,11 @@ use Rattle.ios_acl.specs.List.{AccessList}
 use Rattle.ios_acl.specs.Phrases.{Words}
 use Rattle.ios_acl.specs.Reading as list
 use Rattle.ios_acl.specs.Refusal.{is_among, unmodelled}
+use Rattle.ios_acl.specs.ListNames.{IsListNumber, has_kind, is_standard, is_extended, is_foreign, is_name, FitsName}
 use Rattle.ios_config.specs.declared.fault.ConfigReason.{ConfigReason}
 use Rattle.ios_config.specs.declared.fault.ConfigReason.TheVariants as reason
-use Rattle.ios_config.specs.ListNames.{IsListNumber, has_kind, is_standard, is_extended, is_foreign, is_name}
 use Rattle.ios_config.specs.Router.{Draft, list_named, growing, ignoring, kind_named}
-use Rattle.ios_config.specs.Line.{rule_words, FitsName, FitsLists}
+use Rattle.ios_config.specs.Line.{rule_words, FitsLists}
 
 -- the draft behind a line that is taken, or the reason for which it is not
 abbrev pub Outcome : Type 0

@@ -7,13 +7,13 @@ use Rattle.ios_acl.specs.declared.fault.AclFault.TheVariants as acl
 use Rattle.ios_acl.specs.List.{AccessList}
 use Rattle.ios_acl.specs.Phrases.{Words}
 use Rattle.ios_acl.specs.Faults.{IsFault}
-use Rattle.ios_config.specs.ListNames.{IsListNumber, has_kind, is_standard, is_extended, is_foreign}
+use Rattle.ios_acl.specs.ListNames.{IsListNumber, has_kind, is_standard, is_extended, is_foreign}
 use Rattle.ios_config.specs.Router.{Draft, list_named, ignoring}
 use Rattle.ios_config.specs.Line.{Takes, FitsLists, IsNumberedRefused}
 use Rattle.ios_config.specs.Line as line_of
 use Rattle.ios_config.specs.Taking.{IsBegun, ReadsAt, TakesBehind, AddsRule, BeginsRule, IsNoRule, IsAclFault}
 use Rattle.ios_config.specs.Taking as taking
-use Rattle.ios_config.proofs.Absence.{fault_weaker}
+use Rattle.ios_config.proofs.AclFaults.{fault_weaker}
 use Rattle.ios_config.proofs.Places.{name_of_named}
 use Rattle.ios_config.proofs.BlockEntries.{reads_keeps}
 

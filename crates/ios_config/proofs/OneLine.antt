@@ -10,10 +10,10 @@ use Rattle.ios_acl.specs.Block.{kind_word}
 use Rattle.ios_acl.specs.List.{AccessList}
 use Rattle.ios_acl.specs.Phrases.{Words}
 use Rattle.ios_acl.specs.Refusal.{is_among, unmodelled}
+use Rattle.ios_acl.specs.ListNames.{has_kind, is_standard, is_extended, is_foreign}
 use Rattle.ios_acl.proofs.OneReading.{no_refused_reading, lists_are_one, reasons_are_one}
 use Rattle.ios_acl.proofs.PortWords.{among_cases}
 use Rattle.ios_config.specs.declared.fault.ConfigReason.{ConfigReason}
-use Rattle.ios_config.specs.ListNames.{has_kind, is_standard, is_extended, is_foreign}
 use Rattle.ios_config.specs.Router.{Draft, growing, ignoring}
 use Rattle.ios_config.specs.Line.{rule_words, Takes, IsNumberedRefused, IsBlockRefused, IsLineRefused}
 use Rattle.ios_config.proofs.LineOutcomes.{Outcome, EntryOutcome, RuleOutcome, KindOutcome, foreign_outcome, NumberOutcome, NumberedOutcome, NameOutcome, FitOutcome, KindHeadOutcome, HeadOutcome, OutsideOutcome, InsideOutcome, LineOutcome, of_line}

@@ -1,4 +1,4 @@
--- Configurations that are read, and those that are refused.
+-- Configurations that are refused.
 use Rattle.std.proofs.Common.{◌≡◌, ℕ, List, [], ◌∷◌, ◌++◌, sym}
 use Rattle.std.proofs.lemmas.List.{append-nil}
 use Rattle.ios_lex.specs.RawLines.{raw_lines}
@@ -6,15 +6,12 @@ use Rattle.ios_lex.specs.Lines.{Reading, AreLines}
 use Rattle.ios_config.specs.declared.fault.ConfigFault.{ConfigFault}
 use Rattle.ios_config.specs.declared.fault.ConfigFault.TheVariants as fault
 use Rattle.ios_config.specs.Router.{Draft, no_lines}
-use Rattle.ios_config.specs.Reading.{Router, Reads, IsRefused, TakesAll}
+use Rattle.ios_config.specs.Reading.{Router, IsRefused, TakesAll}
 use Rattle.ios_config.specs.Reading as specs
 use Rattle.ios_config.specs.Faults.{IsFault}
 use Rattle.ios_config.specs.Taking.{IsRouterOf, StopsAmong, IsLineFault, not_built}
 use Rattle.ios_config.specs.Taking as taking
 use Rattle.ios_config.proofs.OpenBanners.{OpensAt}
-
-pub reads_config : (bytes : List ℕ) (lines : List Reading) (router : Router) → AreLines 1 (raw_lines bytes) lines → IsRouterOf lines router → Reads bytes router
-reads_config bytes lines router are made = record { readings = lines; are_lines = are; draft = made.draft; taken = made.taken; lists = made.lists; ignored = made.ignored }
 
 line_fault : (bytes : List ℕ) (front back : List (List ℕ)) (before after : List Reading) (line : Reading) (draft : Draft) (fault : ConfigFault) → raw_lines bytes ≡ front ++ back
     → AreLines 1 front (before ++ line ∷ after) → TakesAll no_lines before draft → IsLineFault draft line fault → IsFault bytes fault

@@ -1,5 +1,4 @@
 pub mod Request
-pub mod ListNames
 pub mod Router
 pub mod Line
 pub mod Reading

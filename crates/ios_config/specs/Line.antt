@@ -8,9 +8,9 @@ use Rattle.ios_acl.specs.List.{AccessList}
 use Rattle.ios_acl.specs.Phrases.{Words}
 use Rattle.ios_acl.specs.Reading as list
 use Rattle.ios_acl.specs.Refusal.{is_among, unmodelled}
+use Rattle.ios_acl.specs.ListNames.{IsListNumber, has_kind, is_standard, is_extended, is_foreign, is_name, FitsName}
 use Rattle.ios_config.specs.declared.fault.ConfigReason.{ConfigReason}
 use Rattle.ios_config.specs.declared.fault.ConfigReason.TheVariants as reason
-use Rattle.ios_config.specs.ListNames.{IsListNumber, has_kind, is_standard, is_extended, is_foreign, is_name}
 use Rattle.ios_config.specs.Router.{Draft, list_named, growing, ignoring, kind_named}
 
 -- the words of an entry or a remark
@@ -24,10 +24,6 @@ pub record IsNumbered (line : Reading) (name : List ℕ) (extended : Bool) (rest
   pub n : ℕ
   pub number : IsListNumber name n
   pub kind : has_kind extended n ≡ true
-
--- a list of this name, which is no number of the other kind, may have this kind
-abbrev pub FitsName : List ℕ → Bool → Type 0
-FitsName name extended = (n : ℕ) → IsListNumber name n → has_kind (not extended) n ≡ true → ⊥
 
 -- no list of this name has the other kind
 abbrev pub FitsLists : Draft → List ℕ → Bool → Type 0

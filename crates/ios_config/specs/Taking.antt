@@ -13,12 +13,12 @@ use Rattle.ios_acl.specs.Reading as reading
 use Rattle.ios_acl.specs.Faults as faults
 use Rattle.ios_acl.specs.Block.{kind_word}
 use Rattle.ios_acl.specs.Refusal.{is_among, unmodelled}
+use Rattle.ios_acl.specs.ListNames.{is_name, FitsName}
 use Rattle.ios_config.specs.declared.fault.ConfigReason.TheVariants as reason
 use Rattle.ios_config.specs.declared.fault.ConfigFault.{ConfigFault}
 use Rattle.ios_config.specs.declared.fault.ConfigFault.TheVariants as fault
-use Rattle.ios_config.specs.ListNames.{is_name}
 use Rattle.ios_config.specs.Router.{Draft, no_lines, list_named, with_list}
-use Rattle.ios_config.specs.Line.{Takes, IsLineRefused, FitsName, FitsLists, rule_words}
+use Rattle.ios_config.specs.Line.{Takes, IsLineRefused, FitsLists, rule_words}
 use Rattle.ios_config.specs.Reading.{Router, TakesAll}
 
 abbrev pub has_name : List ℕ → AccessList → Bool

@@ -2,16 +2,15 @@ ghost use Rattle.std.specs.Prelude.{◌≡◌, ◌<◌, ◌^◌, [], ◌∷◌, 
 ghost use Rattle.ios_lex.specs.LineReadings.{reading_of};
 ghost use Rattle.ios_acl.specs.Refusal as refusal;
 ghost use Rattle.ios_config.specs.Line.{Takes, IsNumberedRefused, IsBlockRefused};
-ghost use Rattle.ios_config.specs.ListNames as names;
+ghost use Rattle.ios_acl.specs.ListNames as names;
 ghost use Rattle.ios_config.specs.Router.{no_lines, ignoring};
 ghost use Rattle.ios_config.specs.Taking as specs;
 ghost use Rattle.ios_config.specs.Taking.{IsAclFault, IsHead, IsLineFault, TakesBehind};
 
 use crate::fault::{ConfigFault, ConfigReason};
-use crate::list_names::{is_foreign, is_name, is_number_of, kind_of, list_number};
 use crate::lists::{add_rule, begin, is_other_kind, read_at};
-use crate::words::{behind, behind_head, check_rule, kind, unmodelled};
-use ios_acl::{Acl, AclFault};
+use crate::words::{behind, behind_head, check_rule, kind};
+use ios_acl::{Acl, AclFault, is_foreign, is_name, is_number_of, kind_of, list_number, unmodelled};
 use ios_lex::{IosReason, Line, Word};
 use std::alloc::Global;
 use std::marker::Model;
@@ -114,7 +113,7 @@ impl Draft {
         let Some((name, rule)) = words.split_first() else {
             return Err(AclFault::Refused(IosReason::BadEntry));
         };
-        let Some(n) = list_number(name) else {
+        let Some(n) = list_number(name.bytes()) else {
             return Err(AclFault::Refused(IosReason::BadNumber));
         };
         let Some(extended) = kind_of(n) else {
@@ -172,7 +171,7 @@ impl Draft {
         let Some((name, more)) = rest.split_first() else {
             return Err(AclFault::Refused(IosReason::BadEntry));
         };
-        if is_number_of(name, !extended) {
+        if is_number_of(name.bytes(), !extended) {
             return Err(AclFault::Refused(IosReason::WrongKind));
         }
         if is_other_kind(self.lists.as_slice(), name, extended) {
@@ -181,7 +180,7 @@ impl Draft {
         if !more.is_empty() {
             return Err(AclFault::Refused(IosReason::BadEntry));
         }
-        if is_name(name) {
+        if is_name(name.bytes()) {
             Ok((name, extended))
         } else {
             Err(AclFault::Refused(IosReason::BadEntry))

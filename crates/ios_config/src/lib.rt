@@ -8,7 +8,6 @@
 
 mod draft;
 mod fault;
-mod list_names;
 mod lists;
 mod request;
 mod router;

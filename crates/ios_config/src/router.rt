@@ -106,9 +106,10 @@ fn bytes_before_line(bytes: &[u8], line: u64) -> &[u8]
     &bytes[..bytes.len() - rest.len()]
 }
 
-/// A configuration is read as one router at most, or refused at one line for one reason, and not both.
+/// A configuration is read as one router or refused at one line for one reason: not both, and not neither.
 pub fn one_config()
     ensures same_router { (bytes : List ℕ) (router other : Read) → specs.Reads bytes router → specs.Reads bytes other → router ≡ other }
     ensures same_refusal { (bytes : List ℕ) (line other : ℕ) (why reason : Why) → specs.IsRefused bytes line why → specs.IsRefused bytes other reason → (line ≡ other) × (why ≡ reason) }
     ensures not_both { (bytes : List ℕ) (router : Read) (line : ℕ) (why : Why) → specs.Reads bytes router → specs.IsRefused bytes line why → ⊥ }
+    ensures not_neither { (bytes : List ℕ) → ((router : Read) → specs.Reads bytes router → ⊥) → ((line : ℕ) (why : Why) → specs.IsRefused bytes line why → ⊥) → ⊥ }
 {}

@@ -1,50 +1,13 @@
 ghost use Rattle.std.specs.Prelude.{◌≡◌, ◌∷◌, [], codes, OnOk, IfErr, IfSome, IfNone, true, false};
-ghost use Rattle.std.specs.List.{list_any};
-ghost use Rattle.std.specs.Str.{bytes_eq};
-ghost use Rattle.ios_lex.specs.declared.reason.IosReason.TheVariants as reason_of;
 ghost use Rattle.ios_acl.specs.Block.{kind_word};
-ghost use Rattle.ios_acl.specs.Faults.{IsFor};
 ghost use Rattle.ios_acl.specs.Phrases.{Words};
 ghost use Rattle.ios_acl.specs.Refusal as specs;
 ghost use Rattle.ios_config.specs.Line.{rule_words};
 ghost use Rattle.ios_config.specs.Taking.{BeginsRule, IsNoRule, IsAclFault};
 
-use ios_acl::AclFault;
+use ios_acl::{AclFault, is_unmodelled, unmodelled};
 use ios_lex::{IosReason, Word};
 use std::alloc::Global;
-
-/// The words that begin an entry or a remark.
-const RULE_WORDS: [&str; 3] = ["permit", "deny", "remark"];
-
-/// The words behind the number of a list that stand for more than is modelled.
-const UNMODELLED: [&str; 19] = [
-    "dynamic",
-    "evaluate",
-    "reflect",
-    "time-range",
-    "object-group",
-    "fragments",
-    "dscp",
-    "tos",
-    "precedence",
-    "option",
-    "ttl",
-    "ack",
-    "fin",
-    "psh",
-    "rst",
-    "syn",
-    "urg",
-    "match-all",
-    "match-any",
-];
-
-/// Whether the word is this text.
-fn is(word: &Word, text: &str) -> bool
-    ensures { result ≡ bytes_eq word.now text.now }
-{
-    word.bytes() == text.as_bytes()
-}
 
 /// The words behind this one.
 pub fn behind<'a>(words: &'a [Word], text: &str) -> Option<&'a [Word]>
@@ -52,7 +15,7 @@ pub fn behind<'a>(words: &'a [Word], text: &str) -> Option<&'a [Word]>
     ensures none { IfNone result ((rest : Words) → words.now ≡ text.now ∷ rest → ⊥) }
 {
     let (first, rest) = words.split_first()?;
-    if is(first, text) { Some(rest) } else { None }
+    if first.is(text) { Some(rest) } else { None }
 }
 
 /// The words behind `ip access-list`.
@@ -69,47 +32,27 @@ pub fn kind(word: &Word) -> Option<bool>
     ensures found { IfSome result (λ extended. word.now ≡ kind_word extended) }
     ensures none { IfNone result (specs.is_among (codes "standard" ∷ codes "extended" ∷ []) word.now ≡ false) }
 {
-    if is(word, "extended") {
+    if word.is("extended") {
         Some(true)
-    } else if is(word, "standard") {
+    } else if word.is("standard") {
         Some(false)
     } else {
         None
     }
 }
 
-/// Whether the word is one of these texts.
-fn is_among(word: &Word, texts: &[&str]) -> bool
-    ensures { result ≡ list_any (λ text. bytes_eq word.now text.now) texts.now }
-{
-    for text in texts {
-        if is(word, text) {
-            return true;
-        }
-    }
-    false
-}
-
+/// Whether the word begins an entry or a remark.
 fn is_rule_word(word: &Word) -> bool
     ensures { result ≡ specs.is_among rule_words word.now }
 {
-    is_among(word, &RULE_WORDS)
+    word.is("permit") || word.is("deny") || word.is("remark")
 }
 
-fn is_unmodelled(word: &Word) -> bool
+/// Whether the word behind the number of a list stands for more than is modelled.
+fn is_not_modelled(word: &Word) -> bool
     ensures { result ≡ specs.is_among (codes "dynamic" ∷ specs.unmodelled) word.now }
 {
-    is_among(word, &UNMODELLED)
-}
-
-/// The fault of a word that stands for more than is modelled.
-pub fn unmodelled(alloc: Global, word: &Word) -> AclFault
-    ensures { IsFor (reason_of.Unmodelled word.now) result }
-{
-    match word.copy(alloc) {
-        Ok(word) => AclFault::Refused(IosReason::Unmodelled(word)),
-        Err(_) => AclFault::NoMemory,
-    }
+    word.is("dynamic") || is_unmodelled(word)
 }
 
 /// Whether the words begin an entry or a remark, and why not.
@@ -120,7 +63,7 @@ pub fn check_rule(alloc: Global, words: &[Word]) -> Result<(), AclFault>
     let Some((first, _)) = words.split_first() else {
         return Err(AclFault::Refused(IosReason::BadEntry));
     };
-    if is_unmodelled(first) {
+    if is_not_modelled(first) {
         return Err(unmodelled(alloc, first));
     }
     if is_rule_word(first) {

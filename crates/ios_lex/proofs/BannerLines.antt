@@ -1,7 +1,7 @@
--- The lines of a banner, one after the other.
+-- The lines of a banner, one after the other, and where it ends.
 use Rattle.std.proofs.Common.{◌≡◌, ℕ, ◌+◌, true, List, [], ◌∷◌, ◌++◌, length, refl, ap, ◌∙◌, append_assoc, arith, length-append}
 use Rattle.ios_lex.specs.RawLines.{raw_lines}
-use Rattle.ios_lex.specs.Banner.{Occurs, IsNowhere}
+use Rattle.ios_lex.specs.Banner.{Opens, Occurs, IsNowhere, EndsWith, IsBanner, delimiter_of, behind_delimiter}
 use Rattle.ios_lex.specs.Lines.{Reading, reading, inside}
 
 -- the lines that are passed between two places of a text, and the readings that they add
@@ -27,3 +27,25 @@ passes_more text rest others line first number old new newer passed passes next 
 pub nowhere_more : (delimiter line : List ℕ) (passed : List (List ℕ)) → IsNowhere delimiter passed → (Occurs delimiter line → ⊥) → IsNowhere delimiter (passed ++ line ∷ [])
 nowhere_more delimiter line [] before none = (none, tt)
 nowhere_more delimiter line (p ∷ passed) before none = (before.0, nowhere_more delimiter line passed before.1 none)
+
+-- a banner ends on its first line where the delimiter occurs once more there
+pub banner_at_once : (line text : List ℕ) → Opens line text → Occurs (delimiter_of text) (behind_delimiter text) → IsBanner line []
+banner_at_once line text opens occurs = record {
+  text = text;
+  opens = opens;
+  ends = record { front = []; last = behind_delimiter text; whole = refl; before = tt; occurs = occurs };
+}
+
+-- or else where it occurs first in a later one
+pub banner_later : (line text : List ℕ) (body : List (List ℕ)) → Opens line text → (Occurs (delimiter_of text) (behind_delimiter text) → ⊥) → EndsWith (delimiter_of text) body → IsBanner line body
+banner_later line text body opens none ends = record {
+  text = text;
+  opens = opens;
+  ends = record {
+    front = behind_delimiter text ∷ ends.front;
+    last = ends.last;
+    whole = ap (λ more. behind_delimiter text ∷ more) ends.whole;
+    before = (none, ends.before);
+    occurs = ends.occurs;
+  };
+}

@@ -1,13 +1,15 @@
 -- Decimal texts.
 use Rattle.std.proofs.Common.{◌≡◌, ℕ, ◌^◌, ◌<◌, ◌≤◌, false, List, length, take, get_or, sym, ◌∙◌, arith}
 use Rattle.std.specs.Char.{is_ascii_digit}
+use Rattle.std.specs.Fmt.{decimal}
 use Rattle.std.specs.Str.Parse.{AllDigits, digits_value}
 use Rattle.std.proofs.Math.Nat.{pow-le-pow_right}
+use Rattle.std.proofs.lemmas.Fmt.{decimal_is_IsNumeral, length-decimal-le}
 use Rattle.std.proofs.lemmas.List.{length-take-le}
 use Rattle.std.proofs.lemmas.Int.Digits.{digits_value-lt}
 use Rattle.std.proofs.lemmas.Str.Parse.{digit_at}
 use Rattle.std.proofs.lemmas.Bool.Decides.{nat_tests}
-use Rattle.ios_lex.specs.Decimal.{IsDecimal}
+use Rattle.ios_lex.specs.Decimal.{IsDecimal, IsNumber, IsByte}
 
 -- the first digits of a text of at most 18 are far from the end of 64 bits
 pub front_is_small : (text : List ℕ) (i : ℕ) → AllDigits 10 (take i text) → i < length text → length text ≤ 18 → digits_value 10 (take i text) < 10 ^ 17
@@ -26,3 +28,19 @@ no_digit_in_decimal most text i inside no_digit n decimal =
 -- a text is a decimal of one number
 pub decimal_is_one : (most : ℕ) (text : List ℕ) (m n : ℕ) → IsDecimal most text m → IsDecimal most text n → m ≡ n
 decimal_is_one most text m n first second = first.value ∙ sym second.value
+
+-- a number is spelled by its decimal digits
+decimal_spelled : (most n : ℕ) → 0 < most → n < 2 ^ 64 → n < 10 ^ most → IsDecimal most (decimal n) n
+decimal_spelled most n some fits small =
+    let numeral = decimal_is_IsNumeral n fits in
+    record {
+      digits = numeral.0;
+      few = length-decimal-le most n some small fits;
+      value = sym numeral.1;
+    }
+
+pub decimal_number : (max n : ℕ) → n < 10 ^ 10 → n ≤ max → IsNumber max (decimal n) n
+decimal_number max n small within = record { decimal = decimal_spelled 10 n (omega arith) (omega arith) small; within = within }
+
+pub decimal_byte : (n : ℕ) → n ≤ 255 → IsByte (decimal n) n
+decimal_byte n within = record { decimal = decimal_spelled 3 n (omega arith) (omega arith) (omega arith); within = within }

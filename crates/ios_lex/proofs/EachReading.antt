@@ -8,6 +8,8 @@ use Rattle.std.proofs.lemmas.Slice.Eq.{starts_is, bytes_eq-Decides}
 use Rattle.ios_lex.specs.Words.{is_gap, from_next_word}
 use Rattle.ios_lex.specs.Banner.{Opens, Occurs, IsNowhere, EndsWith, IsOpen, delimiter_of, behind_delimiter}
 use Rattle.ios_lex.specs.Lines.{Reading, IsPart, plain, banner, AreLines, end, part, IsUnclosed, here, later, outside, inside}
+use Rattle.ios_lex.proofs.BannerLines.{banner_at_once, banner_later}
+use Rattle.ios_lex.proofs.OpenedTexts.{opens_named, opens_third, opens_next}
 
 begins_or_not : (delimiter text : List ℕ) → ((back : List ℕ) × (text ≡ delimiter ++ back)) ⊎ ((back : List ℕ) → text ≡ delimiter ++ back → ⊥)
 begins_or_not delimiter text = decide (starts_with ◌==◌ text delimiter) refl
@@ -55,12 +57,12 @@ opens_or_not line = decide (bytes_eq (before_first is_gap line) (codes "banner")
     decide : (b : Bool) → b ≡ bytes_eq (before_first is_gap line) (codes "banner") → ((text : List ℕ) × Opens line text) ⊎ ((text : List ℕ) → Opens line text → ⊥)
     decide true is =
         let named : before_first is_gap line ≡ codes "banner" = (bytes_eq-Decides (before_first is_gap line) (codes "banner")).0 (cc) in
-        ⊎_elim (λ some. inl (from_next_word (from_next_word line), record { named = named; third = refl; some = some }))
-        (λ empty. inr (λ text opens. omega (arith, empty, ap length opens.third, opens.some)))
+        ⊎_elim (λ some. inl (from_next_word (from_next_word line), opens_next line named some))
+        (λ empty. inr (λ text opens. omega (arith, empty, ap length (opens_third line text opens), opens.some)))
         (cases_lt 0 (length (from_next_word (from_next_word line))))
     decide false is =
         inr (λ text opens.
-        let equal : bytes_eq (before_first is_gap line) (codes "banner") ≡ true = (bytes_eq-Decides (before_first is_gap line) (codes "banner")).1 opens.named in
+        let equal : bytes_eq (before_first is_gap line) (codes "banner") ≡ true = (bytes_eq-Decides (before_first is_gap line) (codes "banner")).1 (opens_named line text opens) in
         cc)
 
 -- the first of the texts in which the delimiter occurs, if there is one
@@ -118,7 +120,7 @@ first_or_open number line behind = ⊎_elim opened unopened (opens_or_not line)
               gives = inside number (line ∷ []);
               next = number + 1;
               left = behind;
-              is_part = banner line [] refl (record { text = o.0; opens = o.1; ends = record { front = []; last = behind_delimiter o.0; whole = refl; before = tt; occurs = found } }) refl (omega arith);
+              is_part = banner line [] refl (banner_at_once line o.0 o.1 found) refl (omega arith);
               fewer = omega arith;
             })
 
@@ -132,17 +134,7 @@ first_or_open number line behind = ⊎_elim opened unopened (opens_or_not line)
                   next = number + 1 + length e.body;
                   left = e.left;
                   is_part = banner line e.body (ap (λ more. line ∷ more) e.whole)
-                      (record {
-                        text = o.0;
-                        opens = o.1;
-                        ends = record {
-                          front = behind_delimiter o.0 ∷ e.ends.front;
-                          last = e.ends.last;
-                          whole = ap (λ more. behind_delimiter o.0 ∷ more) e.ends.whole;
-                          before = (none, e.ends.before);
-                          occurs = e.ends.occurs;
-                        };
-                      })
+                      (banner_later line o.0 e.body o.1 none e.ends)
                       refl
                       refl;
                   fewer = omega (arith, ap length e.whole, length-append {A = List ℕ} e.body e.left);

@@ -1,6 +1,8 @@
+pub mod Absence
 pub mod Cuts
 pub mod DecimalTexts
 pub mod AddressParts
+pub mod AddressTexts
 pub mod NameTables
 pub mod Spellings
 pub mod PrefixMasks
@@ -11,4 +13,6 @@ pub mod BannerLines
 pub mod Parts
 pub mod OneReading
 pub mod EachReading
+pub mod NextWords
+pub mod OpenedTexts
 pub mod OpeningWords

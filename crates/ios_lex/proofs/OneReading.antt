@@ -2,6 +2,7 @@
 use Rattle.std.proofs.Common.{◌≡◌, ℕ, ◌+◌, List, [], ◌∷◌, ◌++◌, length, refl, sym, ap, subst, ◌∙◌}
 use Rattle.ios_lex.specs.Banner.{Occurs, IsNowhere, EndsWith, IsBanner, IsOpen, delimiter_of, behind_delimiter}
 use Rattle.ios_lex.specs.Lines.{Reading, IsPart, plain, banner, AreLines, end, part, IsUnclosed, here, later}
+use Rattle.ios_lex.proofs.OpenedTexts.{opens_third}
 
 -- the first of some texts in which the delimiter occurs is one
 first_is_one : (delimiter last last' : List ℕ) (front front' left left' : List (List ℕ)) → IsNowhere delimiter front → IsNowhere delimiter front' → Occurs delimiter last → Occurs delimiter last' → front ++ last ∷ left ≡ front' ++ last' ∷ left' → (front ++ last ∷ [] ≡ front' ++ last' ∷ []) × (left ≡ left')
@@ -37,7 +38,7 @@ no_end delimiter last (x ∷ front) left nowhere occurs = no_end delimiter last 
 -- a banner ends in one way
 banner_is_one : (line : List ℕ) (body body' left left' : List (List ℕ)) → IsBanner line body → IsBanner line body' → body ++ left ≡ body' ++ left' → (body ≡ body') × (left ≡ left')
 banner_is_one line body body' left left' is is' same =
-    let text : is'.text ≡ is.text = is'.opens.third ∙ sym is.opens.third in
+    let text : is'.text ≡ is.text = opens_third line is'.text is'.opens ∙ sym (opens_third line is.text is.opens) in
     let ends' : EndsWith (delimiter_of is.text) (behind_delimiter is.text ∷ body') =
     subst (λ (t : List ℕ). EndsWith (delimiter_of t) (behind_delimiter t ∷ body')) text is'.ends in
     let ones = ends_once (delimiter_of is.text) (behind_delimiter is.text ∷ body) (behind_delimiter is.text ∷ body') left left' is.ends ends' (ap (λ more. behind_delimiter is.text ∷ more) same) in
@@ -45,7 +46,7 @@ banner_is_one line body body' left left' is is' same =
 
 banner_is_not_open : (line : List ℕ) (body left : List (List ℕ)) → IsBanner line body → IsOpen line (body ++ left) → ⊥
 banner_is_not_open line body left is unended =
-    let text : unended.text ≡ is.text = unended.opens.third ∙ sym is.opens.third in
+    let text : unended.text ≡ is.text = opens_third line unended.text unended.opens ∙ sym (opens_third line is.text is.opens) in
     let nowhere : IsNowhere (delimiter_of is.text) (behind_delimiter is.text ∷ (body ++ left)) =
     subst (λ (t : List ℕ). IsNowhere (delimiter_of t) (behind_delimiter t ∷ (body ++ left))) text unended.open_ended in
     let whole : behind_delimiter is.text ∷ (body ++ left) ≡ is.ends.front ++ is.ends.last ∷ left = ap (λ t. t ++ left) is.ends.whole ∙ one_more is.ends.front left is.ends.last in

@@ -1,16 +1,17 @@
 -- What opens a banner, by the words of the line.
-use Rattle.std.proofs.Common.{◌≡◌, ℕ, suc, ◌+◌, ◌<◌, ◌≤◌, Bool, true, false, not, List, [], ◌∷◌, ◌++◌, length, take, drop, get_or, codes, refl, sym, ap, ◌∙◌, ⊎_elim, arith, add-one, length-append, length-drop, drop-cons}
+use Rattle.std.proofs.Common.{◌≡◌, ℕ, suc, ◌+◌, ◌<◌, ◌≤◌, Bool, true, false, List, [], ◌∷◌, ◌++◌, length, take, drop, get_or, codes, refl, sym, ap, ◌∙◌, ⊎_elim, arith, add-one, length-append, drop-cons}
 use Rattle.std.proofs.Math.ListN.{drop_of_length-le}
 use Rattle.std.specs.List.{filter, prefix_len, position_or_len, before_first}
-use Rattle.std.proofs.lemmas.Bool.{cases_lt, ne_eqb}
+use Rattle.std.proofs.lemmas.Bool.{cases_lt}
 use Rattle.std.proofs.lemmas.List.{take_all}
-use Rattle.std.proofs.lemmas.List.Folds.{length-prefix_len}
 use Rattle.std.proofs.lemmas.List.Splits.{slice_split-cons_yes}
-use Rattle.std.proofs.lemmas.List.Sums.{passes_at_first, prefix_len_stops}
+use Rattle.std.proofs.lemmas.List.Sums.{passes_at_first}
 use Rattle.ios_lex.specs.Words.{is_gap, is_some_text, words_of, from_next_word}
 use Rattle.ios_lex.specs.Banner.{Opens}
 use Rattle.ios_lex.specs.Lines.{is_indented}
 use Rattle.ios_lex.proofs.LineWords.{words_first, words_last, kept}
+use Rattle.ios_lex.proofs.NextWords.{some_first, next_is_word, shorter}
+use Rattle.ios_lex.proofs.OpenedTexts.{opens_named, opens_third, opens_next}
 
 words_of_gap : (x : ℕ) (xs : List ℕ) → is_gap x ≡ true → words_of (x ∷ xs) ≡ words_of xs
 words_of_gap x xs gap = ap (filter is_some_text) (slice_split-cons_yes is_gap x xs gap)
@@ -46,55 +47,23 @@ words_from line = ⊎_elim inside past (cases_lt (position_or_len is_gap line) (
         ∙ ap (λ (t : List ℕ). filter is_some_text (t ∷ []) ++ words_of []) (sym (take_all end line over))
         ∙ ap (λ (t : List ℕ). filter is_some_text (before_first is_gap line ∷ []) ++ words_of t) (sym none)
 
--- a text that begins with no gap begins with a word
-some_first : (text : List ℕ) → 0 < length text → is_gap (get_or text 0 0) ≡ false → 0 < length (before_first is_gap text)
-some_first [] some word = absurd (omega arith)
-some_first (y ∷ ys) some word =
-    let more : position_or_len is_gap (y ∷ ys) ≡ 1 + position_or_len is_gap ys = rw word refl in
-    omega (arith, more, length-prefix_len (λ x. not (is_gap x)) (y ∷ ys))
-
--- as what stands from a next word on does
-next_is_word : (line : List ℕ) → 0 < length (from_next_word line) → is_gap (get_or (from_next_word line) 0 0) ≡ false
-next_is_word line some = begins (drop (prefix_len (λ b. not (is_gap b)) line) line) some
-  where
-    begins : (text : List ℕ) → 0 < length (drop (prefix_len is_gap text) text) → is_gap (get_or (drop (prefix_len is_gap text) text) 0 0) ≡ false
-    begins text more =
-        let within : prefix_len is_gap text < length text = omega (arith, more, length-drop (prefix_len is_gap text) text) in
-        rw (drop-cons text (prefix_len is_gap text) 0 within) (prefix_len_stops is_gap text 0 within)
-
 first_word : (line : List ℕ) → 0 < length line → is_gap (get_or line 0 0) ≡ false → words_of line ≡ before_first is_gap line ∷ words_of (from_next_word line)
 first_word line some word = words_from line ∙ ap (λ words. words ++ words_of (from_next_word line)) (kept (before_first is_gap line) (some_first line some word))
 
-shorter : (line : List ℕ) → length (from_next_word line) ≤ length line
-shorter line =
-    let behind : List ℕ = drop (prefix_len (λ b. not (is_gap b)) line) line in
-    omega (arith, length-drop (prefix_len is_gap behind) behind, length-drop (prefix_len (λ b. not (is_gap b)) line) line)
-
 -- the line of a banner is not indented
 pub opens_unindented : (line text : List ℕ) → Opens line text → is_indented line ≡ false
-opens_unindented line text opens = begins line opens.named
-  where
-    begins : (bytes : List ℕ) → before_first is_gap bytes ≡ codes "banner" → is_gap (get_or bytes 0 0) ≡ false
-    begins [] named = refl
-    begins (x ∷ xs) named = by_case (is_gap x) refl
-      where
-        by_case : (b : Bool) → is_gap x ≡ b → is_gap x ≡ false
-        by_case true gap =
-            let none : position_or_len is_gap (x ∷ xs) ≡ 0 = rw gap refl in
-            let empty : 0 ≡ 6 = ap length (sym (ap (λ n. take n (x ∷ xs)) none) ∙ named) in
-            absurd (omega (arith, empty))
-        by_case false word = word
+opens_unindented line text opens = rw opens.whole refl
 
 -- and has three words, the first of them banner
 pub opens_words : (line text : List ℕ) → Opens line text → (second : List ℕ) × (third : List ℕ) × (more : List (List ℕ)) × (words_of line ≡ codes "banner" ∷ second ∷ third ∷ more)
 opens_words line text opens =
     let behind : List ℕ = from_next_word line in
-    let some : 0 < length (from_next_word behind) = omega (arith, ap length opens.third, opens.some) in
+    let some : 0 < length (from_next_word behind) = omega (arith, ap length (opens_third line text opens), opens.some) in
     let some_behind : 0 < length behind = omega (arith, some, shorter behind) in
     let first = first_word line (omega (arith, some_behind, shorter line)) (opens_unindented line text opens) in
     let second = first_word behind some_behind (next_is_word line some_behind) in
     let third = first_word (from_next_word behind) some (next_is_word behind some) in
-    (before_first is_gap behind, before_first is_gap (from_next_word behind), words_of (from_next_word (from_next_word behind)), first ∙ ap (λ (w : List ℕ). w ∷ words_of behind) opens.named ∙ ap (λ (w : List (List ℕ)). codes "banner" ∷ w) (second ∙ ap (λ (w : List (List ℕ)). before_first is_gap behind ∷ w) third))
+    (before_first is_gap behind, before_first is_gap (from_next_word behind), words_of (from_next_word (from_next_word behind)), first ∙ ap (λ (w : List ℕ). w ∷ words_of behind) (opens_named line text opens) ∙ ap (λ (w : List (List ℕ)). codes "banner" ∷ w) (second ∙ ap (λ (w : List (List ℕ)). before_first is_gap behind ∷ w) third))
 
 at_most_one : (word : List ℕ) → length (filter is_some_text (word ∷ [])) ≤ 1
 at_most_one [] = omega arith
@@ -121,4 +90,4 @@ words_open (x ∷ xs) second third more unindented words =
     let whole : before_first is_gap (x ∷ xs) ∷ words_of behind ≡ codes "banner" ∷ second ∷ third ∷ more = sym first ∙ words in
     let named : before_first is_gap (x ∷ xs) ≡ codes "banner" = cc in
     let rest : words_of behind ≡ second ∷ third ∷ more = cc in
-    (from_next_word behind, record { named = named; third = refl; some = two_words behind (omega (arith, ap length rest)) })
+    (from_next_word behind, opens_next (x ∷ xs) named (two_words behind (omega (arith, ap length rest))))

@@ -1,32 +1,19 @@
 -- The parts of a configuration, and how they are read one after the other.
-use Rattle.std.proofs.Common.{◌≡◌, ℕ, ◌-◌, List, [], ◌∷◌, ◌++◌, length, take, drop, refl, ap, append_assoc}
+use Rattle.std.proofs.Common.{◌≡◌, ℕ, ◌-◌, List, [], ◌∷◌, ◌++◌, length, take, drop, append_assoc}
 use Rattle.std.proofs.lemmas.List.{append-nil, take_rest}
 use Rattle.ios_lex.specs.RawLines.{raw_lines}
 use Rattle.ios_lex.specs.Banner.{Opens, Occurs, IsNowhere, EndsWith, IsBanner, IsOpen, delimiter_len}
 use Rattle.ios_lex.specs.Lines as specs
 use Rattle.ios_lex.specs.Lines.{Reading, IsPart, AreLines, IsUnclosed}
+use Rattle.ios_lex.proofs.BannerLines.{banner_at_once, banner_later}
 
 -- a delimiter that occurs behind the opening one
 pub ends_at_once : (line text : List ℕ) (len : ℕ) → Opens line text → len ≡ delimiter_len text → Occurs (take len text) (take (length text - len) (drop len text)) → IsBanner line []
-ends_at_once line text len opens is occurs = record {
-  text = text;
-  opens = opens;
-  ends = record { front = []; last = drop (delimiter_len text) text; whole = refl; before = tt; occurs = rw is at (rw (take_rest text len) at occurs) };
-}
+ends_at_once line text len opens is occurs = banner_at_once line text opens (rw is at (rw (take_rest text len) at occurs))
 
 -- or in a later line
 pub ends_later : (line text : List ℕ) (len : ℕ) (body : List (List ℕ)) → Opens line text → len ≡ delimiter_len text → (Occurs (take len text) (take (length text - len) (drop len text)) → ⊥) → EndsWith (take len text) body → IsBanner line body
-ends_later line text len body opens is none ends = record {
-  text = text;
-  opens = opens;
-  ends = record {
-    front = drop (delimiter_len text) text ∷ ends.front;
-    last = ends.last;
-    whole = ap (λ more. drop (delimiter_len text) text ∷ more) ends.whole;
-    before = (rw is at (rw (take_rest text len) at none), rw is at ends.before);
-    occurs = rw is at ends.occurs;
-  };
-}
+ends_later line text len body opens is none ends = banner_later line text body opens (rw is at (rw (take_rest text len) at none)) (rw is at ends)
 
 -- or nowhere
 pub ends_nowhere : (line text : List ℕ) (len : ℕ) (behind : List (List ℕ)) → Opens line text → len ≡ delimiter_len text → (Occurs (take len text) (take (length text - len) (drop len text)) → ⊥) → IsNowhere (take len text) behind → IsOpen line behind

@@ -1,14 +1,20 @@
 -- Banners: a text up to its delimiter, on one line or over several.
-use Rattle.std.specs.Prelude.{◌≡◌, ℕ, ◌<◌, ◌==◌, List, [], ◌∷◌, ◌++◌, length, take, drop, codes}
+use Rattle.std.specs.Prelude.{◌≡◌, ℕ, ◌<◌, ◌==◌, false, List, [], ◌∷◌, ◌++◌, length, take, drop, slice_index, codes}
 use Rattle.std.specs.Bool.{if◌then◌else◌}
-use Rattle.std.specs.List.{before_first, starts_with, AllByRecursion}
-use Rattle.ios_lex.specs.Words.{is_gap, from_next_word}
+use Rattle.std.specs.List.{starts_with, AllByRecursion}
+use Rattle.ios_lex.specs.Words.{is_gap, AreGaps, IsWord}
 
--- the line begins with the word banner, before any gap, and has a third word, at which the text begins
+-- the line is the word banner, a gap, a second word, a gap, and the text, which begins with a third word
 pub record Opens (line text : List ℕ) : Type 0 where
-  pub named : before_first is_gap line ≡ codes "banner"
-  pub third : text ≡ from_next_word (from_next_word line)
+  pub gap : List ℕ
+  pub second : List ℕ
+  pub next_gap : List ℕ
+  pub whole : line ≡ codes "banner" ++ (gap ++ (second ++ (next_gap ++ text)))
+  pub gap_is : AreGaps gap
+  pub second_is : IsWord second
+  pub next_gap_is : AreGaps next_gap
   pub some : 0 < length text
+  pub third : is_gap (slice_index text 0) ≡ false
 
 -- the delimiter is ^C where the text begins so, else the text's first byte
 abbrev pub delimiter_len : List ℕ → ℕ

@@ -1,8 +1,29 @@
-ghost use Rattle.std.specs.Prelude.{◌≡◌, ℕ, List, IfSome, IfNone};
-ghost use Rattle.ios_lex.specs.Address.{AreParts, IsAddress};
+ghost use Rattle.std.specs.Prelude.{◌≡◌, ◌<◌, ◌^◌, ℕ, List, IfSome, IfNone};
+ghost use Rattle.ios_lex.specs.Address.{AreParts, IsAddress, dotted};
 
 use crate::cut::split_at_byte;
 use crate::decimals::byte;
+use std::fmt;
+
+/// An address as it is written: its four bytes joined by dots.
+#[derive(Clone, Copy, Debug)]
+pub struct Dotted(pub u32);
+
+impl fmt::Display for Dotted {
+    ghost use Rattle.std.specs.Prelude.{Some};
+
+    ghost output = { λ address. Some (dotted address.0) };
+
+    #[tactic(auto, unfolding(crate::specs::Address::dotted))]
+    fn fmt<W: fmt::Write>(&self, f: &mut fmt::Formatter<W>) -> fmt::Result {
+        let address = self.0;
+        let first = address / 0x100_0000;
+        let second = address / 0x1_0000 % 256;
+        let third = address / 0x100 % 256;
+        let fourth = address % 256;
+        write!(f, "{first}.{second}.{third}.{fourth}")
+    }
+}
 
 /// The four parts of a text between its first three dots. None where it has fewer.
 pub fn four_parts(text: &[u8]) -> Option<(&[u8], &[u8], &[u8], &[u8])>
@@ -28,7 +49,8 @@ pub fn address(word: &[u8]) -> Option<u32>
     Some(u32::from_be_bytes([a, b, c, d]))
 }
 
-/// A word spells one address at most.
+/// A word spells one address at most, and an address as it is written spells that address.
 pub fn one_address()
-    ensures { (word : List ℕ) (m n : ℕ) → IsAddress word m → IsAddress word n → m ≡ n }
+    ensures same { (word : List ℕ) (m n : ℕ) → IsAddress word m → IsAddress word n → m ≡ n }
+    ensures written { (n : ℕ) → n < 2 ^ 32 → IsAddress (dotted n) n }
 {}

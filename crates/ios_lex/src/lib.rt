@@ -18,7 +18,7 @@ mod reason;
 mod word;
 mod words;
 
-pub use addresses::{address, four_parts, one_address};
+pub use addresses::{Dotted, address, four_parts, one_address};
 pub use banner::opening_words;
 pub use cut::split_at_byte;
 pub use decimals::{byte, number};

@@ -22,6 +22,21 @@ fn addresses_have_four_bytes(rt: HostRuntime) {
 }
 
 #[test]
+fn addresses_are_written_with_dots(rt: HostRuntime) -> Result<(), Fail> {
+    let table: [(u32, &str); 3] = [
+        (0, "0.0.0.0"),
+        (0x0a01_0105, "10.1.1.5"),
+        (0xffff_00ff, "255.255.0.255"),
+    ];
+    for (n, want) in table {
+        let address = Dotted(n);
+        let text = format!(in rt.alloc(); "{address}")?;
+        assert_eq!(rt; text.as_str(), want);
+    }
+    Ok(())
+}
+
+#[test]
 fn numbers_have_one_to_ten_digits(rt: HostRuntime) {
     let table: [(&str, u64, Option<u64>); 7] = [
         ("0", 0, Some(0)),
@@ -43,6 +58,7 @@ fn numbers_have_one_to_ten_digits(rt: HostRuntime) {
 fn words_are_kept_and_cut(rt: HostRuntime) -> Result<(), Fail> {
     let word = Word::of(rt.alloc(), b"access-list")?;
     assert_eq!(rt; word.copy(rt.alloc())?.bytes(), b"access-list".as_slice());
+    assert!(rt; word.is("access-list") && !word.is("access"));
     assert!(rt; split_at_byte(b"a-b-c", b'-') == Some((b"a".as_slice(), b"b-c".as_slice())));
     assert!(rt; split_at_byte(b"abc", b'-') == None);
     let (first, second, third, fourth) = four_parts(b"1..3.4.5").ok_or("no parts")?;

@@ -18,6 +18,8 @@ impl Model for Word {
 }
 
 impl Word {
+    ghost use Rattle.std.specs.Str.{bytes_eq};
+
     /// The word of these bytes.
     pub fn of(alloc: Global, bytes: &[u8]) -> Result<Word, AllocError>
         ensures { IfOk result (λ word. word ≡ bytes.now) }
@@ -31,6 +33,13 @@ impl Word {
         ensures { result.now ≡ self.now }
     {
         self.bytes.as_slice()
+    }
+
+    /// Whether the word is this text.
+    pub fn is(&self, text: &str) -> bool
+        ensures { result ≡ bytes_eq self.now text.now }
+    {
+        self.bytes() == text.as_bytes()
     }
 
     /// The same word once more.

@@ -8,7 +8,7 @@ use Rattle.margrave_cli.specs.declared.ended.Cause.TheVariants as cause
 use Rattle.margrave_cli.specs.Complete.{IsAnswerable, TellsFile}
 use Rattle.margrave_cli.specs.Statement.{Statement}
 use Rattle.margrave_cli.specs.Steps.{State, Carries, loads, explores, shows, decides, IsUnread, fault, too_long, Stops, taken, unread as unread_file, refused as refused_file, explored, explored_past, decided, decided_past, with_router, most_bytes}
-use Rattle.margrave_cli.specs.Run.{AreCarriedOut, all, next, broken, stop, IsBreak, IsScriptRun, unread, refused, read, IsRun, bad_words, form, IsWritten, TakesWhole, Blames, no_routers}
+use Rattle.margrave_cli.specs.Run.{AreCarriedOut, all, next, broken, stop, IsBreak, NoBreak, IsScriptRun, unread, broken_off, refused, read, IsRun, bad_words, form, IsWritten, TakesWhole, Blames, no_routers}
 use Rattle.ios_config.proofs.OneConfig.{routers_same, read_is_not_refused}
 use Rattle.margrave_cli.proofs.Places.{held}
 use Rattle.margrave_cli.proofs.StatementLists.{same_statements, not_both}
@@ -76,45 +76,44 @@ abbrev IsDone : Cause → Type 0
 IsDone end = (end ≡ cause.Done) ⊎ IsBreak end
 
 -- where some run of the statements is done, each is, or breaks off
-statements_done : (name : List ℕ) (told : List ℕ → Option (List ℕ)) (rose : List ℕ → Type 0) → ((file : List ℕ) → rose file → ⊥) → (line : ℕ) (state : State) (statements : List Statement) (good : Cause) (words : List ℕ) → good ≡ cause.Done → AllByRecursion (TellsFile told) statements → AreCarriedOut name told (λ file. ⊥) line state statements good words → (end : Cause) (text : List ℕ) → AreCarriedOut name told rose line state statements end text → IsDone end
-statements_done name told rose calm _ _ _ _ _ done tells (all line state) _ _ (all _ _) = inl refl
-statements_done name told rose calm _ _ _ _ _ done tells (all line state) _ _ (broken _ _ _ end is_break) = inr is_break
-statements_done name told rose calm _ _ _ _ _ done tells (next line state new statement statements good words more carries run) _ _ (next _ _ last _ _ end text rest carries' run') =
+statements_done : (name : List ℕ) (told : List ℕ → Option (List ℕ)) (rose : List ℕ → Type 0) → ((file : List ℕ) → rose file → ⊥) → (line : ℕ) (state : State) (statements : List Statement) (count : ℕ) (good : Cause) (words : List ℕ) → good ≡ cause.Done → AllByRecursion (TellsFile told) statements → AreCarriedOut NoBreak name told (λ file. ⊥) line state statements count good words → (reads : ℕ) (end : Cause) (text : List ℕ) → AreCarriedOut IsBreak name told rose line state statements reads end text → IsDone end
+statements_done name told rose calm _ _ _ _ _ _ done tells (all line state) _ _ _ (all _ _) = inl refl
+statements_done name told rose calm _ _ _ _ _ _ done tells (all line state) _ _ _ (broken _ _ _ reads end is_break within) = inr is_break
+statements_done name told rose calm _ _ _ _ _ _ done tells (next line state new statement statements count good words more carries run) _ _ _ (next _ _ last _ _ reads end text rest carries' run') =
     let same = state_is_one told state statement words text new last tells.0 carries carries' in
-    statements_done name told rose calm (line + 1) new statements good more done tells.1 run end rest (rw same at run')
-statements_done name told rose calm _ _ _ _ _ done tells (next line state new statement statements good words more carries run) _ _ (broken _ _ _ end is_break) = inr is_break
-statements_done name told rose calm _ _ _ _ _ done tells (next line state new statement statements good words more carries run) _ _ (stop _ _ _ _ end text stops) =
+    statements_done name told rose calm (line + 1) new statements count good more done tells.1 run reads end rest (rw same at run')
+statements_done name told rose calm _ _ _ _ _ _ done tells (next line state new statement statements count good words more carries run) _ _ _ (broken _ _ _ reads end is_break within) = inr is_break
+statements_done name told rose calm _ _ _ _ _ _ done tells (next line state new statement statements count good words more carries run) _ _ _ (stop _ _ _ _ end text stops) =
     absurd (carries_not_stops name told rose line state statement words new end text calm tells.0 carries stops)
-statements_done name told rose calm _ _ _ _ _ done tells (broken line state statements good is_break) end text run =
-    let no : ⊥ = rw done at is_break in
-    absurd no
-statements_done name told rose calm _ _ _ _ _ done tells (stop line state statement statements good words stops) end text run =
+statements_done name told rose calm _ _ _ _ _ _ done tells (broken line state statements count good is_break within) reads end text run = absurd is_break
+statements_done name told rose calm _ _ _ _ _ _ done tells (stop line state statement statements good words stops) reads end text run =
     absurd (stops_not_done name told (λ file. ⊥) line state statement good words done stops)
 
-script_done : (words : List (List ℕ)) (told : List ℕ → Option (List ℕ)) (rose : List ℕ → Type 0) (a : IsAnswerable words told) → ((file : List ℕ) → rose file → ⊥) → (end : Cause) (text : List ℕ) → IsScriptRun a.name told rose end text → IsDone end
-script_done words told rose a calm end text (unread fails) =
+script_done : (words : List (List ℕ)) (told : List ℕ → Option (List ℕ)) (rose : List ℕ → Type 0) (a : IsAnswerable words told) → ((file : List ℕ) → rose file → ⊥) → (reads : ℕ) (end : Cause) (text : List ℕ) → IsScriptRun IsBreak a.name told rose reads end text → IsDone end
+script_done words told rose a calm _ _ _ (unread end text fails) =
     absurd (unread_never a.name (told a.name) (rose a.name) a.bytes a.is_told a.within (calm a.name) end text fails)
-script_done words told rose a calm end text (refused other line why gives refuses says) =
+script_done words told rose a calm _ _ _ (broken_off end is_break) = inr is_break
+script_done words told rose a calm _ _ _ (refused other line why end text gives refuses says) =
     absurd (not_both a.reads (rw (given_told (told a.name) a.bytes other a.is_told gives) at refuses))
-script_done words told rose a calm end text (read other statements gives reads run) =
-    let same : statements ≡ a.statements = same_statements a.bytes statements a.statements (rw (given_told (told a.name) a.bytes other a.is_told gives) at reads) a.reads in
-    statements_done a.name told rose calm 1 no_routers a.statements cause.Done a.text refl a.files a.carried end text (rw same at run)
+script_done words told rose a calm _ _ _ (read other statements reads end text gives are_read run) =
+    let same : statements ≡ a.statements = same_statements a.bytes statements a.statements (rw (given_told (told a.name) a.bytes other a.is_told gives) at are_read) a.reads in
+    statements_done a.name told rose calm 1 no_routers a.statements a.files_read cause.Done a.text refl a.files a.carried reads end text (rw same at run)
 
-run_done : (words : List (List ℕ)) (told : List ℕ → Option (List ℕ)) (rose : List ℕ → Type 0) → IsAnswerable words told → ((file : List ℕ) → rose file → ⊥) → (end : Cause) (text : List ℕ) → IsRun words told rose end text → IsDone end
-run_done words told rose a calm end text (bad_words no_form e t) = absurd (no_form a.name a.is_form)
-run_done words told rose a calm end text (form name is_form is_run) =
+run_done : (words : List (List ℕ)) (told : List ℕ → Option (List ℕ)) (rose : List ℕ → Type 0) → IsAnswerable words told → ((file : List ℕ) → rose file → ⊥) → (reads : ℕ) (end : Cause) (text : List ℕ) → IsRun IsBreak words told rose reads end text → IsDone end
+run_done words told rose a calm _ _ _ (bad_words no_form) = absurd (no_form a.name a.is_form)
+run_done words told rose a calm _ _ _ (form name reads end text is_form is_run) =
     let same : name ≡ a.name = cc (is_form.one, a.is_form.one) in
-    script_done words told rose a calm end text (rw same at is_run)
+    script_done words told rose a calm reads end text (rw same at is_run)
 
-whole_done : (words : List (List ℕ)) (told : List ℕ → Option (List ℕ)) (rose : List ℕ → Type 0) → IsAnswerable words told → ((file : List ℕ) → rose file → ⊥) → (before after : Option (List ℕ)) (end : Cause) → (IsBreak end → ⊥) → TakesWhole (IsRun words told rose) before after end → (end ≡ cause.Done) ⊎ (end ≡ cause.NoMemory)
-whole_done words told rose a calm before after end whole_run whole =
-    elim (run_done words told rose a calm end whole.text whole.is_run) [ inl done ↦ inl done | inr is_break ↦ absurd (whole_run is_break) ]
+whole_done : (words : List (List ℕ)) (told : List ℕ → Option (List ℕ)) (rose : List ℕ → Type 0) → IsAnswerable words told → ((file : List ℕ) → rose file → ⊥) → (reads : ℕ) (before after : Option (List ℕ)) (end : Cause) → (IsBreak end → ⊥) → TakesWhole (IsRun IsBreak words told rose reads) before after end → (end ≡ cause.Done) ⊎ (end ≡ cause.NoMemory)
+whole_done words told rose a calm reads before after end whole_run whole =
+    elim (run_done words told rose a calm reads end whole.text whole.is_run) [ inl done ↦ inl done | inr is_break ↦ absurd (whole_run is_break) ]
 
 -- so it ends as done, or for want of memory
-pub completes : (words : List (List ℕ)) (told : List ℕ → Option (List ℕ)) (rose : List ℕ → Type 0) → IsAnswerable words told → ((file : List ℕ) → rose file → ⊥) → (faults now : ℕ) → (Rose faults now → ⊥) → (before after : Option (List ℕ)) (end : Cause) → Blames faults now end → IsWritten (IsRun words told rose) before after end → (end ≡ cause.Done) ⊎ (end ≡ cause.NoMemory)
-completes words told rose a calm faults now sure before after cause.Done blames written = inl refl
-completes words told rose a calm faults now sure before after (cause.Refused file line reason) blames written = whole_done words told rose a calm before after (cause.Refused file line reason) (λ no. no) written
-completes words told rose a calm faults now sure before after cause.BadWords blames written = whole_done words told rose a calm before after cause.BadWords (λ no. no) written
-completes words told rose a calm faults now sure before after (cause.ReadFault file) blames written = whole_done words told rose a calm before after (cause.ReadFault file) (λ no. no) written
-completes words told rose a calm faults now sure before after cause.WriteFault blames written = absurd (sure (blames.rose refl))
-completes words told rose a calm faults now sure before after cause.NoMemory blames written = inr refl
+pub completes : (words : List (List ℕ)) (told : List ℕ → Option (List ℕ)) (rose : List ℕ → Type 0) → IsAnswerable words told → ((file : List ℕ) → rose file → ⊥) → (faults now : ℕ) → (Rose faults now → ⊥) → (reads : ℕ) (before after : Option (List ℕ)) (end : Cause) → Blames faults now end → IsWritten (IsRun IsBreak words told rose reads) before after end → (end ≡ cause.Done) ⊎ (end ≡ cause.NoMemory)
+completes words told rose a calm faults now sure reads before after cause.Done blames written = inl refl
+completes words told rose a calm faults now sure reads before after (cause.Refused file line reason) blames written = whole_done words told rose a calm reads before after (cause.Refused file line reason) (λ no. no) written
+completes words told rose a calm faults now sure reads before after cause.BadWords blames written = whole_done words told rose a calm reads before after cause.BadWords (λ no. no) written
+completes words told rose a calm faults now sure reads before after (cause.ReadFault file) blames written = whole_done words told rose a calm reads before after (cause.ReadFault file) (λ no. no) written
+completes words told rose a calm faults now sure reads before after cause.WriteFault blames written = absurd (sure (blames.rose refl))
+completes words told rose a calm faults now sure reads before after cause.NoMemory blames written = inr refl

@@ -1,5 +1,6 @@
 pub mod Places
 pub mod Writing
+pub mod Counting
 pub mod Faults
 pub mod Moves
 pub mod Carried
@@ -16,3 +17,6 @@ pub mod ValueWords
 pub mod AskedLines
 pub mod OneStatement
 pub mod StatementLists
+pub mod SomeReading
+pub mod Progress
+pub mod WholeRuns

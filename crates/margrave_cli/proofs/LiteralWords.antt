@@ -1,14 +1,13 @@
 -- The numbers that words spell.
-use Rattle.std.proofs.Common.{◌≡◌, inl, inr, ℕ, ◌+◌, ◌-◌, ◌*◌, ◌^◌, ◌<◌, min, false, List, [], ◌∷◌, ◌++◌, length, get_or, codes, refl, sym, subst, ◌∙◌, arith}
+use Rattle.std.proofs.Common.{◌≡◌, inl, inr, ℕ, ◌+◌, ◌-◌, ◌*◌, ◌^◌, ◌<◌, min, false, List, ◌∷◌, ◌++◌, length, get_or, codes, refl, sym, subst, ◌∙◌, arith}
 use Rattle.std.specs.Char.{is_ascii_digit}
-use Rattle.std.specs.Int.{w32, from_be_bytes}
 use Rattle.std.proofs.lemmas.Bool.Decides.{nat_tests}
 use Rattle.std.proofs.lemmas.Str.Parse.{digit_at}
-use Rattle.ios_lex.specs.Address.{AreParts}
+use Rattle.ios_lex.specs.Address.{AreParts, IsDotted}
 use Rattle.ios_lex.specs.Cut.{IsFree}
-use Rattle.ios_lex.proofs.AddressParts.{parts_are_one, no_first_cut}
+use Rattle.ios_lex.proofs.AddressParts.{HasBytes, bytes_of_dotted, dotted_is_one, dotted_parts, no_first_cut}
 use Rattle.ios_lex.proofs.Cuts.{digits_are_free, cut_is_not_free}
-use Rattle.margrave_cli.specs.Literals.{capped, IsNumber, IsByte, IsDotted, IsLiteral}
+use Rattle.margrave_cli.specs.Literals.{capped, IsNumber, IsByte, IsLiteral}
 
 capped_is_min : (n : ℕ) → capped n ≡ min n (2 ^ 64 - 1)
 capped_is_min n = grind (arith, nat_tests)
@@ -38,65 +37,24 @@ byte_is_one : (text : List ℕ) (m n : ℕ) → IsByte text m → IsByte text n 
 byte_is_one text m n first second = first.1 ∙ sym second.1
 
 -- the parts of four bytes joined by dots are those of the text
-pub dotted_parts : (word : List ℕ) (n : ℕ) (h : IsDotted word n) → AreParts word h.first h.second h.third h.fourth
-dotted_parts word n h = record {
-  whole = h.whole;
-  first_free = byte_is_free h.first h.a h.first_byte;
-  second_free = byte_is_free h.second h.b h.second_byte;
-  third_free = byte_is_free h.third h.c h.third_byte;
-}
+pub word_parts : (word : List ℕ) (n : ℕ) (h : IsDotted IsByte word n) → AreParts word h.first h.second h.third h.fourth
+word_parts = dotted_parts IsByte byte_is_free
 
--- the four parts of a text, and what its number says of them
-pub record HasBytes (first second third fourth : List ℕ) (n : ℕ) : Type 0 where
-  pub a : ℕ
-  pub b : ℕ
-  pub c : ℕ
-  pub d : ℕ
-  pub first_byte : IsByte first a
-  pub second_byte : IsByte second b
-  pub third_byte : IsByte third c
-  pub fourth_byte : IsByte fourth d
-  pub value : n ≡ from_be_bytes w32 (a ∷ b ∷ c ∷ d ∷ [])
+pub bytes_of_parts : (word first second third fourth : List ℕ) (n : ℕ) → AreParts word first second third fourth → IsDotted IsByte word n → HasBytes IsByte first second third fourth n
+bytes_of_parts = bytes_of_dotted IsByte byte_is_free
 
-pub bytes_of_parts : (word first second third fourth : List ℕ) (n : ℕ) → AreParts word first second third fourth → IsDotted word n → HasBytes first second third fourth n
-bytes_of_parts word first second third fourth n parts h =
-    let same = parts_are_one word first second third fourth h.first h.second h.third h.fourth parts (dotted_parts word n h) in
-    record {
-      a = h.a;
-      b = h.b;
-      c = h.c;
-      d = h.d;
-      first_byte = rw same.first_same h.first_byte;
-      second_byte = rw same.second_same h.second_byte;
-      third_byte = rw same.third_same h.third_byte;
-      fourth_byte = rw same.fourth_same h.fourth_byte;
-      value = h.value;
-    }
-
-same_bytes : (a a' b b' c c' d d' : ℕ) → a ≡ a' → b ≡ b' → c ≡ c' → d ≡ d' → from_be_bytes w32 (a ∷ b ∷ c ∷ d ∷ []) ≡ from_be_bytes w32 (a' ∷ b' ∷ c' ∷ d' ∷ [])
-same_bytes a a' b b' c c' d d' first second third fourth = rw (first, second, third, fourth) refl
-
-dotted_is_one : (word : List ℕ) (m n : ℕ) → IsDotted word m → IsDotted word n → m ≡ n
-dotted_is_one word m n g h =
-    let p = bytes_of_parts word g.first g.second g.third g.fourth n (dotted_parts word m g) h in
-    let a = byte_is_one g.first g.a p.a g.first_byte p.first_byte in
-    let b = byte_is_one g.second g.b p.b g.second_byte p.second_byte in
-    let c = byte_is_one g.third g.c p.c g.third_byte p.third_byte in
-    let d = byte_is_one g.fourth g.d p.d g.fourth_byte p.fourth_byte in
-    g.value ∙ same_bytes g.a p.a g.b p.b g.c p.c g.d p.d a b c d ∙ sym p.value
-
-number_is_not_dotted : (word : List ℕ) (m n : ℕ) → IsNumber word m → IsDotted word n → ⊥
+number_is_not_dotted : (word : List ℕ) (m n : ℕ) → IsNumber word m → IsDotted IsByte word n → ⊥
 number_is_not_dotted word m n number h =
-    no_first_cut word (digits_are_free 46 (omega arith) word number.0.1) h.first h.second h.third h.fourth (dotted_parts word n h)
+    no_first_cut word (digits_are_free 46 (omega arith) word number.0.1) h.first h.second h.third h.fourth (word_parts word n h)
 
 -- a word spells one number
 pub literal_is_one : (word : List ℕ) (m n : ℕ) → IsLiteral word m → IsLiteral word n → m ≡ n
 literal_is_one word m n (inl first) (inl second) = number_is_one word m n first second
 literal_is_one word m n (inl first) (inr second) = absurd (number_is_not_dotted word m n first second)
 literal_is_one word m n (inr first) (inl second) = absurd (number_is_not_dotted word n m second first)
-literal_is_one word m n (inr first) (inr second) = dotted_is_one word m n first second
+literal_is_one word m n (inr first) (inr second) = dotted_is_one IsByte byte_is_free byte_is_one word m n first second
 
-pub no_literal : (word : List ℕ) → ((n : ℕ) → IsNumber word n → ⊥) → ((n : ℕ) → IsDotted word n → ⊥) → (n : ℕ) → IsLiteral word n → ⊥
+pub no_literal : (word : List ℕ) → ((n : ℕ) → IsNumber word n → ⊥) → ((n : ℕ) → IsDotted IsByte word n → ⊥) → (n : ℕ) → IsLiteral word n → ⊥
 no_literal word no_number no_dotted n (inl number) = no_number n number
 no_literal word no_number no_dotted n (inr dotted) = no_dotted n dotted
 
@@ -104,4 +62,4 @@ no_literal word no_number no_dotted n (inr dotted) = no_dotted n dotted
 pub and_is_no_literal : (n : ℕ) → IsLiteral (codes "AND") n → ⊥
 and_is_no_literal n (inl number) = omega (arith, number.0.1.0)
 and_is_no_literal n (inr dotted) =
-    cut_is_not_free 46 dotted.first (dotted.second ++ 46 ∷ (dotted.third ++ 46 ∷ dotted.fourth)) (subst (λ (text : List ℕ). IsFree 46 text) dotted.whole refl)
+    cut_is_not_free 46 dotted.first (dotted.second ++ 46 ∷ (dotted.third ++ 46 ∷ dotted.fourth)) (subst (λ (text : List ℕ). IsFree 46 text) dotted.spelled refl)

@@ -2,8 +2,8 @@
 use Rattle.std.proofs.Common.{◌≡◌, ℕ, ◌+◌, List, Option, Result, IfErr, refl}
 use Rattle.std.proofs.lemmas.Result.{IfErr-weaker}
 use Rattle.margrave_cli.specs.declared.ended.Cause.{Cause}
-use Rattle.margrave_cli.specs.Endings.{WritesStep, IsStepEnd, stopped, broken}
-use Rattle.margrave_cli.specs.Run.{AreCarriedOut, all, next, broken as breaks, stop, IsWritten}
+use Rattle.margrave_cli.specs.Endings.{WritesStep, IsStepEnd, stopped, broken, begun}
+use Rattle.margrave_cli.specs.Run.{AreCarriedOut, all, next, broken as breaks, stop, IsWritten, IsPerformed}
 use Rattle.margrave_cli.specs.Statement.{Statement}
 use Rattle.margrave_cli.specs.Steps.{State, Carries, loads, explores, shows, decides, IsUnread, fault, too_long, Stops, taken, unread, refused, explored, explored_past, decided, decided_past}
 use Rattle.margrave_cli.proofs.Writing.{written_weaker}
@@ -30,11 +30,12 @@ stops_moves script told told' rose rose' same later line state end text _ (decid
 stops_moves script told told' rose rose' same later line state end text _ (decided_past router list values found named past says) = decided_past router list values found named past says
 
 -- what a run that ends at a statement says of the files holds of them as they were before
-pub step_end_moves : (script : List ℕ) (told told' : List ℕ → Option (List ℕ)) (rose rose' : List ℕ → Type 0) → ((file : List ℕ) → told file ≡ told' file) → ((file : List ℕ) → rose file → rose' file) → (line : ℕ) (state : State) (statement : Statement) (end : Cause) (text : List ℕ) → IsStepEnd script told rose line state statement end text → IsStepEnd script told' rose' line state statement end text
-step_end_moves script told told' rose rose' same later line state statement end text (stopped stops) =
-    stopped (stops_moves script told told' rose rose' same later line state end text statement stops)
-step_end_moves script told told' rose rose' same later line state statement end text (broken new carries is_break) =
-    broken new (carries_moves told told' same state statement text new carries) is_break
+pub step_end_moves : (script : List ℕ) (told told' : List ℕ → Option (List ℕ)) (rose rose' : List ℕ → Type 0) → ((file : List ℕ) → told file ≡ told' file) → ((file : List ℕ) → rose file → rose' file) → (line : ℕ) (state : State) (statement : Statement) (reads : ℕ) (end : Cause) (text : List ℕ) → IsStepEnd script told rose line state statement reads end text → IsStepEnd script told' rose' line state statement reads end text
+step_end_moves script told told' rose rose' same later line state statement _ _ _ (stopped end text stops) =
+    stopped end text (stops_moves script told told' rose rose' same later line state end text statement stops)
+step_end_moves script told told' rose rose' same later line state statement _ _ _ (broken end text new carries is_break) =
+    broken end text new (carries_moves told told' same state statement text new carries) is_break
+step_end_moves script told told' rose rose' same later line state statement _ _ _ (begun end is_break) = begun end is_break
 
 pub writes_moves : (told told' : List ℕ → Option (List ℕ)) → ((file : List ℕ) → told file ≡ told' file) → (state : State) (statement : Statement) (new : State) (before after : Option (List ℕ)) → WritesStep told state statement new before after → WritesStep told' state statement new before after
 writes_moves told told' same state statement new before after writes = record {
@@ -44,19 +45,23 @@ writes_moves told told' same state statement new before after writes = record {
 }
 
 -- a statement that reads no file
-pub quiet_ends : (result : Result (Unit {0}) Cause) (script : List ℕ) (told : List ℕ → Option (List ℕ)) (rose : List ℕ → Type 0) (line : ℕ) (state : State) (statement other : Statement) (before after : Option (List ℕ)) → statement ≡ other → IfErr result (IsWritten (IsStepEnd script told (λ file. ⊥) line state other) before after) → IfErr result (IsWritten (IsStepEnd script told rose line state statement) before after)
-quiet_ends result script told rose line state statement other before after same ended =
-    rw same (IfErr-weaker result (IsWritten (IsStepEnd script told (λ file. ⊥) line state other) before after) (IsWritten (IsStepEnd script told rose line state other) before after)
-    (λ end written. written_weaker (IsStepEnd script told (λ file. ⊥) line state other) _
-    (λ end text ends. step_end_moves script told told (λ file. ⊥) rose (λ file. refl) (λ file no. absurd no) line state other end text ends)
-    before after end written)
+pub quiet_ends : (result : Result (Unit {0}) Cause) (script : List ℕ) (told : List ℕ → Option (List ℕ)) (rose : List ℕ → Type 0) (line : ℕ) (state : State) (statement other : Statement) (count : ℕ) (before after : Option (List ℕ)) → statement ≡ other → IfErr result (IsWritten (IsStepEnd script told (λ file. ⊥) line state other 0) before after) → IfErr result (IsPerformed (IsStepEnd script told rose line state statement) count count before after)
+quiet_ends result script told rose line state statement other count before after same ended =
+    rw same (IfErr-weaker result (IsWritten (IsStepEnd script told (λ file. ⊥) line state other 0) before after) (IsPerformed (IsStepEnd script told rose line state other) count count before after)
+    (λ end written. record {
+      reads = 0;
+      counted = refl;
+      written = written_weaker (IsStepEnd script told (λ file. ⊥) line state other 0) (IsStepEnd script told rose line state other 0)
+          (λ end text ends. step_end_moves script told told (λ file. ⊥) rose (λ file. refl) (λ file no. absurd no) line state other 0 end text ends)
+          before after end written;
+    })
     ended)
 
-pub carried_out_moves : (name : List ℕ) (told told' : List ℕ → Option (List ℕ)) (rose rose' : List ℕ → Type 0) → ((file : List ℕ) → told file ≡ told' file) → ((file : List ℕ) → rose file → rose' file) → (line : ℕ) (state : State) (statements : List Statement) (end : Cause) (text : List ℕ) → AreCarriedOut name told rose line state statements end text → AreCarriedOut name told' rose' line state statements end text
-carried_out_moves name told told' rose rose' same later _ _ _ _ _ (all line state) = all line state
-carried_out_moves name told told' rose rose' same later _ _ _ _ _ (next line state new statement statements end text rest carries run) =
-    next line state new statement statements end text rest (carries_moves told told' same state statement text new carries)
-    (carried_out_moves name told told' rose rose' same later (line + 1) new statements end rest run)
-carried_out_moves name told told' rose rose' same later _ _ _ _ _ (breaks line state statements end is_break) = breaks line state statements end is_break
-carried_out_moves name told told' rose rose' same later _ _ _ _ _ (stop line state statement statements end text stops) =
+pub carried_out_moves : (may_break : Cause → Type 0) (name : List ℕ) (told told' : List ℕ → Option (List ℕ)) (rose rose' : List ℕ → Type 0) → ((file : List ℕ) → told file ≡ told' file) → ((file : List ℕ) → rose file → rose' file) → (line : ℕ) (state : State) (statements : List Statement) (reads : ℕ) (end : Cause) (text : List ℕ) → AreCarriedOut may_break name told rose line state statements reads end text → AreCarriedOut may_break name told' rose' line state statements reads end text
+carried_out_moves may_break name told told' rose rose' same later _ _ _ _ _ _ (all line state) = all line state
+carried_out_moves may_break name told told' rose rose' same later _ _ _ _ _ _ (next line state new statement statements reads end text rest carries run) =
+    next line state new statement statements reads end text rest (carries_moves told told' same state statement text new carries)
+    (carried_out_moves may_break name told told' rose rose' same later (line + 1) new statements reads end rest run)
+carried_out_moves may_break name told told' rose rose' same later _ _ _ _ _ _ (breaks line state statements reads end is_break within) = breaks line state statements reads end is_break within
+carried_out_moves may_break name told told' rose rose' same later _ _ _ _ _ _ (stop line state statement statements end text stops) =
     stop line state statement statements end text (stops_moves name told told' rose rose' same later line state end text statement stops)

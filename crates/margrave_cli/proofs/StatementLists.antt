@@ -106,7 +106,7 @@ empty (x ∷ left) none = absurd (omega arith)
 pub reads : (text : List ℕ) (statements : List Statement) (left : List ℕ) (asked : Bool) → HasRead text statements left asked → left ≡ [] → Reads text statements
 reads text statements left asked so_far none = record { lines = rw none at so_far.begins; ordered = is_ordered_so_far text statements left asked so_far }
 
-refused : (text : List ℕ) (statements : List Statement) (left : List ℕ) (asked : Bool) (why : Reason) → HasRead text statements left asked → (left ≡ [] → ⊥) → Departs left asked why → Refuses text (length statements + 1) why
+pub refused : (text : List ℕ) (statements : List Statement) (left : List ℕ) (asked : Bool) (why : Reason) → HasRead text statements left asked → (left ≡ [] → ⊥) → Departs left asked why → Refuses text (length statements + 1) why
 refused text statements left asked why so_far some (not_built refuted) =
     departs statements left so_far.begins (is_ordered_so_far text statements left asked so_far) some refuted
 refused text statements left asked why so_far some (no_explore others begins unasked_yet) =

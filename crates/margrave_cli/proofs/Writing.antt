@@ -6,7 +6,7 @@ use Rattle.mg_outside.specs.declared.sink.SinkFault.{SinkFault}
 use Rattle.mg_outside.specs.declared.sink.SinkFault.TheVariants as sink
 use Rattle.margrave_cli.specs.declared.ended.Cause.{Cause}
 use Rattle.margrave_cli.specs.declared.ended.Cause.TheVariants as cause
-use Rattle.margrave_cli.specs.Run.{TakesWhole, TakesPart, nothing, front, After, IsWritten}
+use Rattle.margrave_cli.specs.Run.{TakesWhole, TakesPart, IsWritten}
 use Rattle.margrave_cli.specs.Endings.{Breaks, Says, cause_of}
 
 -- nothing was taken
@@ -29,8 +29,12 @@ whole_weaker P Q weaker before after end whole = record {
 }
 
 part_weaker : (P Q : Cause → List ℕ → Type 0) → ((end : Cause) (text : List ℕ) → P end text → Q end text) → (before after : Option (List ℕ)) → TakesPart P before after → TakesPart Q before after
-part_weaker P Q weaker before after (nothing taken) = nothing taken
-part_weaker P Q weaker before after (front end text run taken) = front end text (weaker end text run) taken
+part_weaker P Q weaker before after part = record {
+  end = part.end;
+  text = part.text;
+  is_run = weaker part.end part.text part.is_run;
+  taken = part.taken;
+}
 
 -- what is written of a run of one kind is written of a run of a wider kind
 pub written_weaker : (P Q : Cause → List ℕ → Type 0) → ((end : Cause) (text : List ℕ) → P end text → Q end text) → (before after : Option (List ℕ)) (end : Cause) → IsWritten P before after end → IsWritten Q before after end
@@ -41,15 +45,27 @@ written_weaker P Q weaker before after (cause.ReadFault file) written = whole_we
 written_weaker P Q weaker before after cause.WriteFault written = part_weaker P Q weaker before after written
 written_weaker P Q weaker before after cause.NoMemory written = part_weaker P Q weaker before after written
 
+-- nothing was taken yet of the text of a run
+pub nothing_yet : (run : Cause → List ℕ → Type 0) (before : Option (List ℕ)) (end : Cause) (text : List ℕ) → run end text → TakesPart run before before
+nothing_yet run before end text is_run = record {
+  end = end;
+  text = text;
+  is_run = is_run;
+  taken = record { front = []; rest = text; whole = refl; taken = takes_nothing before };
+}
+
+part_of : (run : Cause → List ℕ → Type 0) (end : Cause) (text : List ℕ) → run end text → (before after : Option (List ℕ)) → TakesFront before after text → TakesPart run before after
+part_of run end text is_run before after taken = record { end = end; text = text; is_run = is_run; taken = taken }
+
 -- a refused write leaves a front of the text
 pub written_cut : (end : Cause) (text : List ℕ) (before after : Option (List ℕ)) (fault : SinkFault) → TakesFront before after text → IsWritten (Says end text) before after (cause_of fault)
-written_cut end text before after sink.Failed taken = front end text (refl, refl) taken
-written_cut end text before after sink.NoMemory taken = front end text (refl, refl) taken
+written_cut end text before after sink.Failed taken = part_of (Says end text) end text (refl, refl) before after taken
+written_cut end text before after sink.NoMemory taken = part_of (Says end text) end text (refl, refl) before after taken
 
 -- and so does one of a text behind which the run goes on
 pub broken_cut : (text : List ℕ) (before after : Option (List ℕ)) (fault : SinkFault) → TakesFront before after text → IsWritten (Breaks text) before after (cause_of fault)
-broken_cut text before after sink.Failed taken = front cause.WriteFault text (tt, refl) taken
-broken_cut text before after sink.NoMemory taken = front cause.NoMemory text (tt, refl) taken
+broken_cut text before after sink.Failed taken = part_of (Breaks text) cause.WriteFault text (tt, refl) before after taken
+broken_cut text before after sink.NoMemory taken = part_of (Breaks text) cause.NoMemory text (tt, refl) before after taken
 
 -- a front of a text is a front of a longer one
 pub front_of_longer : (before after : Option (List ℕ)) (text more : List ℕ) → TakesFront before after text → TakesFront before after (text ++ more)
@@ -60,21 +76,24 @@ front_of_longer before after text more taken = record {
   taken = taken.taken;
 }
 
-part_after : (run : Cause → List ℕ → Type 0) (first : List ℕ) (before middle after : Option (List ℕ)) → Takes before middle first → (end : Cause) (text : List ℕ) → run end text → TakesPart run middle after → TakesPart (After first run) before after
-part_after run first before middle after one end text is_run (nothing taken) =
-    front end (first ++ text) (record { rest = text; whole = refl; is_run = is_run }) (record {
-      front = first;
-      rest = text;
-      whole = refl;
-      taken = rw append-nil at (takes_both before middle after first [] one taken);
-    })
-part_after run first before middle after one end text is_run (front other words is_other taken) =
-    front other (first ++ words) (record { rest = words; whole = refl; is_run = is_other }) (record {
-      front = first ++ taken.front;
-      rest = taken.rest;
-      whole = rw (taken.whole, append_assoc) refl;
-      taken = takes_both before middle after first taken.front one taken.taken;
-    })
+-- a run that goes on after this text
+pub record After (first : List ℕ) (run : Cause → List ℕ → Type 0) (end : Cause) (text : List ℕ) : Type 0 where
+  pub rest : List ℕ
+  pub whole : text ≡ first ++ rest
+  pub is_run : run end rest
+
+part_after : (run : Cause → List ℕ → Type 0) (first : List ℕ) (before middle after : Option (List ℕ)) → Takes before middle first → TakesPart run middle after → TakesPart (After first run) before after
+part_after run first before middle after one part = record {
+  end = part.end;
+  text = first ++ part.text;
+  is_run = record { rest = part.text; whole = refl; is_run = part.is_run };
+  taken = record {
+    front = first ++ part.taken.front;
+    rest = part.taken.rest;
+    whole = rw (part.taken.whole, append_assoc) refl;
+    taken = takes_both before middle after first part.taken.front one part.taken.taken;
+  };
+}
 
 whole_after : (run : Cause → List ℕ → Type 0) (first : List ℕ) (before middle after : Option (List ℕ)) (end : Cause) → Takes before middle first → TakesWhole run middle after end → TakesWhole (After first run) before after end
 whole_after run first before middle after end one whole = record {
@@ -83,19 +102,32 @@ whole_after run first before middle after end one whole = record {
   taken = takes_both before middle after first whole.text one whole.taken;
 }
 
--- what is written after a first text that was taken whole; some run there is gives the text of which a part was taken
-pub written_after : (run : Cause → List ℕ → Type 0) (first : List ℕ) (before middle after : Option (List ℕ)) → Takes before middle first → (end : Cause) (text : List ℕ) → run end text → (result : Cause) → IsWritten run middle after result → IsWritten (After first run) before after result
-written_after run first before middle after one end text is_run cause.Done written = whole_after run first before middle after cause.Done one written
-written_after run first before middle after one end text is_run (cause.Refused file line reason) written = whole_after run first before middle after (cause.Refused file line reason) one written
-written_after run first before middle after one end text is_run cause.BadWords written = whole_after run first before middle after cause.BadWords one written
-written_after run first before middle after one end text is_run (cause.ReadFault file) written = whole_after run first before middle after (cause.ReadFault file) one written
-written_after run first before middle after one end text is_run cause.WriteFault written = part_after run first before middle after one end text is_run written
-written_after run first before middle after one end text is_run cause.NoMemory written = part_after run first before middle after one end text is_run written
+-- what is written after a first text that was taken whole
+pub written_after : (run : Cause → List ℕ → Type 0) (first : List ℕ) (before middle after : Option (List ℕ)) → Takes before middle first → (result : Cause) → IsWritten run middle after result → IsWritten (After first run) before after result
+written_after run first before middle after one cause.Done written = whole_after run first before middle after cause.Done one written
+written_after run first before middle after one (cause.Refused file line reason) written = whole_after run first before middle after (cause.Refused file line reason) one written
+written_after run first before middle after one cause.BadWords written = whole_after run first before middle after cause.BadWords one written
+written_after run first before middle after one (cause.ReadFault file) written = whole_after run first before middle after (cause.ReadFault file) one written
+written_after run first before middle after one cause.WriteFault written = part_after run first before middle after one written
+written_after run first before middle after one cause.NoMemory written = part_after run first before middle after one written
 
--- a first text of which a front was taken
-pub first_cut : (run : Cause → List ℕ → Type 0) (first : List ℕ) (before after : Option (List ℕ)) (fault : SinkFault) → TakesFront before after first → (end : Cause) (text : List ℕ) → run end text → IsWritten (After first run) before after (cause_of fault)
-first_cut run first before after sink.Failed taken end text is_run = front end (first ++ text) (record { rest = text; whole = refl; is_run = is_run }) (front_of_longer before after first text taken)
-first_cut run first before after sink.NoMemory taken end text is_run = front end (first ++ text) (record { rest = text; whole = refl; is_run = is_run }) (front_of_longer before after first text taken)
+-- a whole text is a front of itself
+whole_part : (run : Cause → List ℕ → Type 0) (before after : Option (List ℕ)) (end : Cause) → TakesWhole run before after end → TakesPart run before after
+whole_part run before after end whole = record {
+  end = end;
+  text = whole.text;
+  is_run = whole.is_run;
+  taken = record { front = whole.text; rest = []; whole = sym (append-nil whole.text); taken = whole.taken };
+}
+
+-- so that in any case a part was taken
+pub part_written : (run : Cause → List ℕ → Type 0) (before after : Option (List ℕ)) (end : Cause) → IsWritten run before after end → TakesPart run before after
+part_written run before after cause.Done written = whole_part run before after cause.Done written
+part_written run before after (cause.Refused file line reason) written = whole_part run before after (cause.Refused file line reason) written
+part_written run before after cause.BadWords written = whole_part run before after cause.BadWords written
+part_written run before after (cause.ReadFault file) written = whole_part run before after (cause.ReadFault file) written
+part_written run before after cause.WriteFault written = written
+part_written run before after cause.NoMemory written = written
 
 -- a count that rose from a later one rose from an earlier one
 pub rose_from_earlier : (before middle now : ℕ) → before ≤ middle → Rose middle now → Rose before now
@@ -105,3 +137,8 @@ rose_from_earlier before middle now earlier rose = omega arith
 pub both_on_ok : {T E P Q R : Type 0} (r : Result T E) → (P → Q → R) → OnOk r P → OnOk r Q → OnOk r R
 both_on_ok (Ok x) step p q = step p q
 both_on_ok (Err e) step p q = tt
+
+-- a fact that holds in any case
+pub on_ok_from : {T E P : Type 0} (r : Result T E) → P → OnOk r P
+on_ok_from (Ok x) p = p
+on_ok_from (Err e) p = tt

@@ -2,7 +2,7 @@
 use Rattle.std.specs.Prelude.{◌≡◌, ℕ, ◌≤◌, List, length, Option, Some, IsSome}
 use Rattle.std.specs.List.{AllByRecursion}
 use Rattle.margrave_cli.specs.declared.ended.Cause.TheVariants as cause
-use Rattle.margrave_cli.specs.Run.{AreCarriedOut, no_routers}
+use Rattle.margrave_cli.specs.Run.{AreCarriedOut, NoBreak, no_routers}
 use Rattle.margrave_cli.specs.Script as script
 use Rattle.margrave_cli.specs.Statement.{Statement, load}
 use Rattle.margrave_cli.specs.Steps.{most_bytes}
@@ -23,5 +23,6 @@ pub record IsAnswerable (words : List (List ℕ)) (told : List ℕ → Option (L
   pub statements : List Statement
   pub reads : script.Reads bytes statements
   pub files : AllByRecursion (TellsFile told) statements
+  pub files_read : ℕ
   pub text : List ℕ
-  pub carried : AreCarriedOut name told (λ file. ⊥) 1 no_routers statements cause.Done text
+  pub carried : AreCarriedOut NoBreak name told (λ file. ⊥) 1 no_routers statements files_read cause.Done text

@@ -1,5 +1,5 @@
 -- The ends of a run that write one line, and of a run that breaks off. No public call is stated by this.
-use Rattle.std.specs.Prelude.{◌≡◌, ℕ, List, length, Option, Contains}
+use Rattle.std.specs.Prelude.{◌≡◌, ℕ, List, [], length, Option, Contains}
 use Rattle.std.specs.List.{AllByRecursion}
 use Rattle.mg_outside.specs.Taking.{Takes}
 use Rattle.mg_outside.specs.declared.files.FileFault.{FileFault}
@@ -12,7 +12,7 @@ use Rattle.margrave_cli.specs.declared.ended.Cause.TheVariants as cause
 use Rattle.margrave_cli.specs.declared.ended.Reason.TheVariants as reason
 use Rattle.margrave_cli.specs.Run.{IsBreak}
 use Rattle.margrave_cli.specs.Statement.{Statement, WrittenTest, explore, decide}
-use Rattle.margrave_cli.specs.Steps.{State, Carries, Stops, IsRefusal}
+use Rattle.margrave_cli.specs.Steps.{State, reads_of, Carries, Stops, IsRefusal}
 use Rattle.margrave_cli.specs.Text.{fault_line}
 
 -- this text and no other, with this cause
@@ -23,11 +23,11 @@ Says end text other words = (other ≡ end) × (words ≡ text)
 abbrev pub Breaks : List ℕ → Cause → List ℕ → Type 0
 Breaks text end words = IsBreak end × (words ≡ text)
 
--- what a fault of a read makes the run end with; want of memory writes nothing
+-- what a fault of a read makes the run end with; at want of memory it breaks off
 abbrev pub IsFaultEnd : List ℕ → FileFault → Cause → List ℕ → Type 0
 IsFaultEnd file fault.Failed = Says (cause.ReadFault file) (fault_line file)
 IsFaultEnd file (fault.TooLong given) = IsRefusal file 0 (reason.TooLong given)
-IsFaultEnd file fault.NoMemory = λ end text. ⊥
+IsFaultEnd file fault.NoMemory = Breaks []
 
 -- a cause that speaks neither of the sink nor of memory
 abbrev pub IsTold : Cause → Type 0
@@ -46,10 +46,13 @@ pub record WritesStep (told : List ℕ → Option (List ℕ)) (state : State) (s
   pub carries : Carries told state statement text new
   pub taken : Takes before after text
 
--- a run ends at a statement: it is refused, or it could be carried out and the run breaks off
-pub data IsStepEnd (script : List ℕ) (told : List ℕ → Option (List ℕ)) (rose : List ℕ → Type 0) (line : ℕ) (state : State) (statement : Statement) (end : Cause) (text : List ℕ) : Type 0 where
-  stopped : Stops script told rose line state end text statement → IsStepEnd script told rose line state statement end text
-  broken : (new : State) → Carries told state statement text new → IsBreak end → IsStepEnd script told rose line state statement end text
+-- a run ends at a statement: it is refused, or the run breaks off within what it writes, or before that
+pub data IsStepEnd (script : List ℕ) (told : List ℕ → Option (List ℕ)) (rose : List ℕ → Type 0) (line : ℕ) (state : State) (statement : Statement) : ℕ → Cause → List ℕ → Type 0 where
+  stopped : (end : Cause) (text : List ℕ) → Stops script told rose line state end text statement
+      → IsStepEnd script told rose line state statement (reads_of state statement) end text
+  broken : (end : Cause) (text : List ℕ) (new : State) → Carries told state statement text new → IsBreak end
+      → IsStepEnd script told rose line state statement (reads_of state statement) end text
+  begun : (end : Cause) → IsBreak end → IsStepEnd script told rose line state statement (reads_of state statement) end []
 
 -- the test is of a field of the packet that comes in
 abbrev pub IsOfPacket : WrittenTest → Type 0

@@ -1,8 +1,8 @@
 -- Numbers as a script writes them.
-use Rattle.std.specs.Prelude.{◌≡◌, ◌⊎◌, ℕ, ◌-◌, ◌^◌, ◌≤◌, nat_le, List, [], ◌∷◌, ◌++◌}
+use Rattle.std.specs.Prelude.{◌≡◌, ◌⊎◌, ℕ, ◌-◌, ◌^◌, ◌≤◌, nat_le, List}
 use Rattle.std.specs.Bool.{if◌then◌else◌}
-use Rattle.std.specs.Int.{w32, from_be_bytes}
 use Rattle.std.specs.Str.Parse.{IsNumeral, digits_value}
+use Rattle.ios_lex.specs.Address.{IsDotted}
 
 -- a number too great for any field counts as the greatest of 64 bits
 abbrev pub capped : ℕ → ℕ
@@ -16,22 +16,6 @@ IsNumber word n = IsNumeral 10 word × (n ≡ capped (digits_value 10 word))
 abbrev pub IsByte : List ℕ → ℕ → Type 0
 IsByte word n = IsNumeral 10 word × (n ≡ digits_value 10 word) × (n ≤ 255)
 
--- the number of four bytes joined by dots, 46, the first the heaviest
-pub record IsDotted (word : List ℕ) (n : ℕ) : Type 0 where
-  pub first : List ℕ
-  pub second : List ℕ
-  pub third : List ℕ
-  pub fourth : List ℕ
-  pub a : ℕ
-  pub b : ℕ
-  pub c : ℕ
-  pub d : ℕ
-  pub whole : word ≡ first ++ 46 ∷ (second ++ 46 ∷ (third ++ 46 ∷ fourth))
-  pub first_byte : IsByte first a
-  pub second_byte : IsByte second b
-  pub third_byte : IsByte third c
-  pub fourth_byte : IsByte fourth d
-  pub value : n ≡ from_be_bytes w32 (a ∷ b ∷ c ∷ d ∷ [])
-
+-- a number, or four bytes joined by dots
 abbrev pub IsLiteral : List ℕ → ℕ → Type 0
-IsLiteral word n = IsNumber word n ⊎ IsDotted word n
+IsLiteral word n = IsNumber word n ⊎ IsDotted IsByte word n

@@ -4,7 +4,7 @@ use Rattle.std.specs.List.{slice_split}
 use Rattle.ios_acl.specs.declared.entry.Verdict.{Verdict}
 use Rattle.ios_acl.specs.Grammar.{verdict_word}
 use Rattle.ios_config.specs.declared.request.Field.{Field}
-use Rattle.ios_config.specs.ListNames.{is_name}
+use Rattle.ios_acl.specs.ListNames.{is_name}
 use Rattle.ios_config.specs.Request.{packet_fields}
 use Rattle.session.specs.Value.{field_name}
 use Rattle.margrave_cli.specs.Names.{IsName, IsQuotable, is_word}

@@ -1,5 +1,6 @@
 -- What one statement of a script does in a run.
 use Rattle.std.specs.Prelude.{◌≡◌, ℕ, ◌<◌, ◌≤◌, ◌^◌, Bool, true, false, List, [], ◌∷◌, ◌++◌, length, map, Option, Some, None, IfSome, nat_lt, ◌&&◌}
+use Rattle.std.specs.Bool.{if◌then◌else◌}
 use Rattle.std.specs.List.{list_all}
 use Rattle.mg_outside.specs.Reading.{Gives}
 use Rattle.ios_acl.specs.declared.packet.Packet.{Packet}
@@ -32,6 +33,13 @@ most_bytes = 4194304
 pub record State : Type 0 where
   pub library : List Loaded
   pub question : Option Question
+
+-- how many files a statement reads where it is reached: LOAD one, unless its name is taken
+abbrev pub reads_of : State → Statement → ℕ
+reads_of state (load file name) = if is_taken state.library name then 0 else 1
+reads_of state (explore router list verdict tests) = 0
+reads_of state show = 0
+reads_of state (decide router list values) = 0
 
 abbrev pub fits_wildcard : ℕ → Option ℕ → Bool
 fits_wildcard width None = true

@@ -34,7 +34,7 @@ pub fn explore<S: Sink>(
     ensures carried { (told : List ℕ → Option (List ℕ)) → OnOk result
         (WritesStep told state.old (statement.explore router.now list.now verdict (map test_of tests.now)) state.new (S.taken out.old) (S.taken out.new)) }
     ensures stopped { (told : List ℕ → Option (List ℕ)) → IfErr result (IsWritten
-        (IsStepEnd at.now.script.now told (λ file. ⊥) at.now.number state.old (statement.explore router.now list.now verdict (map test_of tests.now)))
+        (IsStepEnd at.now.script.now told (λ file. ⊥) at.now.number state.old (statement.explore router.now list.now verdict (map test_of tests.now)) 0)
         (S.taken out.old) (S.taken out.new)) }
     ensures later { S.faults out.old ≤ S.faults out.new }
     ensures blames { IfErr result (Blames (S.faults out.old) (S.faults out.new)) }
@@ -57,7 +57,7 @@ pub fn show<S: Sink>(alloc: Global, state: &State, out: &mut S) -> Result<(), Ca
     requires { IsSome state.now.question }
     ensures carried { (told : List ℕ → Option (List ℕ)) → OnOk result (WritesStep told state.now statement.show state.now (S.taken out.old) (S.taken out.new)) }
     ensures stopped { (script : List ℕ) (told : List ℕ → Option (List ℕ)) (line : ℕ) → IfErr result (IsWritten
-        (IsStepEnd script told (λ file. ⊥) line state.now statement.show)
+        (IsStepEnd script told (λ file. ⊥) line state.now statement.show 0)
         (S.taken out.old) (S.taken out.new)) }
     ensures later { S.faults out.old ≤ S.faults out.new }
     ensures blames { IfErr result (Blames (S.faults out.old) (S.faults out.new)) }

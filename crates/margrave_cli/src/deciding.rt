@@ -24,7 +24,7 @@ pub fn decide<S: Sink>(
     requires { length values.now ≡ 8 }
     ensures carried { (told : List ℕ → Option (List ℕ)) → OnOk result (WritesStep told state.now (decide router.now list.now values.now) state.now (S.taken out.old) (S.taken out.new)) }
     ensures stopped { (told : List ℕ → Option (List ℕ)) → IfErr result (IsWritten
-        (IsStepEnd at.now.script.now told (λ file. ⊥) at.now.number state.now (decide router.now list.now values.now))
+        (IsStepEnd at.now.script.now told (λ file. ⊥) at.now.number state.now (decide router.now list.now values.now) 0)
         (S.taken out.old) (S.taken out.new)) }
     ensures later { S.faults out.old ≤ S.faults out.new }
     ensures blames { IfErr result (Blames (S.faults out.old) (S.faults out.new)) }

@@ -9,6 +9,7 @@ ghost use Rattle.margrave_cli.specs.Statement.{WrittenTest as Test, AreTests};
 use crate::literals::literal;
 use crate::statement::WrittenTest;
 use ios_config::Field;
+use session::field_name;
 use std::alloc::{AllocError, Global};
 
 /// The fields of a packet as it comes in, in the order of a packet.
@@ -22,28 +23,6 @@ const PACKET_FIELDS: [Field; 8] = [
     Field::IcmpType,
     Field::IcmpCode,
 ];
-
-fn field_name(field: Field) -> &'static str
-    ensures { result.now ≡ field_name field }
-{
-    match field {
-        Field::Entry => "entry",
-        Field::SrcIn => "src_in",
-        Field::DstIn => "dst_in",
-        Field::SportIn => "sport_in",
-        Field::DportIn => "dport_in",
-        Field::Proto => "proto",
-        Field::Flags => "flags",
-        Field::IcmpType => "icmp_type",
-        Field::IcmpCode => "icmp_code",
-        Field::SrcOut => "src_out",
-        Field::DstOut => "dst_out",
-        Field::SportOut => "sport_out",
-        Field::DportOut => "dport_out",
-        Field::NextHop => "next_hop",
-        Field::Exit => "exit",
-    }
-}
 
 /// The field of this name among the fields.
 fn named(word: &[u8], fields: &[Field]) -> Option<Field>

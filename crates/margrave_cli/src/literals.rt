@@ -1,5 +1,6 @@
 ghost use Rattle.std.specs.Prelude.{◌≡◌, ℕ, List, IfSome, IfNone};
-ghost use Rattle.margrave_cli.specs.Literals.{IsByte, IsDotted, IsLiteral, IsNumber};
+ghost use Rattle.ios_lex.specs.Address.{IsDotted};
+ghost use Rattle.margrave_cli.specs.Literals.{IsByte, IsLiteral, IsNumber};
 
 use ios_lex::four_parts;
 
@@ -34,8 +35,8 @@ fn byte(word: &[u8]) -> Option<u8>
 
 /// The number of four bytes joined by dots, the first the heaviest.
 fn dotted(word: &[u8]) -> Option<u32>
-    ensures found { IfSome result (IsDotted word.now) }
-    ensures none { IfNone result ((n : ℕ) → IsDotted word.now n → ⊥) }
+    ensures found { IfSome result (IsDotted IsByte word.now) }
+    ensures none { IfNone result ((n : ℕ) → IsDotted IsByte word.now n → ⊥) }
 {
     let (first, second, third, fourth) = four_parts(word)?;
     let a = byte(first)?;

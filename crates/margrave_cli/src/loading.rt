@@ -4,9 +4,9 @@ ghost use Rattle.mg_outside.specs.Taking.{Takes};
 ghost use Rattle.session.specs.Text.{loaded_line};
 ghost use Rattle.margrave_cli.specs.Endings.{Breaks, IsStepEnd, WritesStep};
 ghost use Rattle.margrave_cli.specs.Library.{defined_lists};
-ghost use Rattle.margrave_cli.specs.Run.{Blames, IsWritten};
+ghost use Rattle.margrave_cli.specs.Run.{Blames, Counted, IsPerformed, IsWritten};
 ghost use Rattle.margrave_cli.specs.Statement.{load};
-ghost use Rattle.margrave_cli.specs.Steps.{with_router};
+ghost use Rattle.margrave_cli.specs.Steps.{reads_of, with_router};
 
 use crate::ended::{Cause, Reason};
 use crate::endings::{Line, end_unread, refuse, refuse_line, write};
@@ -32,9 +32,10 @@ pub fn load<F: Files, S: Sink>(
     out: &mut S,
 ) -> Result<(), Cause>
     ensures carried { OnOk result (WritesStep (F.holds files.old) state.old (load file.now name.now) state.new (S.taken out.old) (S.taken out.new)) }
-    ensures stopped { IfErr result (IsWritten
+    ensures counted { OnOk result (Counted (reads_of state.old (load file.now name.now)) (F.reads files.old) (F.reads files.new)) }
+    ensures stopped { IfErr result (IsPerformed
         (IsStepEnd at.now.script.now (F.holds files.old) (λ file. Rose (F.faults files.old file) (F.faults files.new file)) at.now.number state.old (load file.now name.now))
-        (S.taken out.old) (S.taken out.new)) }
+        (F.reads files.old) (F.reads files.new) (S.taken out.old) (S.taken out.new)) }
     ensures same { (other : List ℕ) → F.holds files.new other ≡ F.holds files.old other }
     ensures faults { (other : List ℕ) → F.faults files.old other ≤ F.faults files.new other }
     ensures later { S.faults out.old ≤ S.faults out.new }

@@ -31,25 +31,36 @@ mod words;
 
 pub use ended::{Cause, Ended, Reason};
 use mg_outside::{DiskFiles, StdSink};
+use std::alloc::AllocError;
 use std::env;
 use std::env::Env;
+use std::io::ErrorKind;
 use std::process::ExitCode;
 
-/// The words of the command line without the program's name; none where the system does not give them.
-fn words_of(rt: &(impl Env + AllocGlobal)) -> Vec<String> {
-    let none = Vec::new(rt.alloc());
+/// The words of the command line without the program's name; none where they are no text.
+fn words_of(rt: &(impl Env + AllocGlobal)) -> Result<Vec<String>, AllocError> {
     match env::args(rt) {
-        Ok(words) => words.skip(1).collect(rt.alloc()).unwrap_or(none),
-        Err(_) => none,
+        Ok(words) => words.skip(1).collect(rt.alloc()),
+        Err(fault) if fault.kind() == ErrorKind::OutOfMemory => Err(AllocError),
+        Err(_) => Ok(Vec::new(rt.alloc())),
+    }
+}
+
+/// The whole program over the real files and the real standard output.
+fn run_on_system(rt: &HostRuntime) -> Ended {
+    match words_of(rt) {
+        Ok(words) => run::run(
+            rt.alloc(),
+            words.as_slice(),
+            &mut DiskFiles::new(rt),
+            &mut StdSink::new(rt),
+        ),
+        Err(_) => Ended::by(Cause::NoMemory),
     }
 }
 
 fn main(rt: HostRuntime) -> ExitCode {
-    let words = words_of(&rt);
-    let mut files = DiskFiles::new(&rt);
-    let mut out = StdSink::new(&rt);
-    let ended = run::run(rt.alloc(), words.as_slice(), &mut files, &mut out);
-    ExitCode::from(ended.status)
+    ExitCode::from(run_on_system(&rt).status)
 }
 
 #[cfg(test)]

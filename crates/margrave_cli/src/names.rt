@@ -1,7 +1,6 @@
 ghost use Rattle.std.specs.Prelude.{◌≡◌, ◌↔◌, ◌==◌, ◌&&◌, ◌||◌, not, IsTrue};
 ghost use Rattle.std.specs.List.{list_all, list_any};
 ghost use Rattle.std.specs.Str.{bytes_eq};
-ghost use Rattle.ios_config.specs.ListNames as lists;
 ghost use Rattle.margrave_cli.specs.Names.{IsName, is_digit, is_keyword, is_letter, is_lettered, is_quotable, is_word, is_word_byte};
 
 /// The words that scripts keep for themselves; none of them is a name.
@@ -132,24 +131,6 @@ pub fn is_quotable(text: &[u8]) -> bool
 {
     for byte in text {
         if !is_quotable_byte(*byte) {
-            return false;
-        }
-    }
-    true
-}
-
-fn is_list_byte(byte: u8) -> bool
-    ensures { result ≡ (lists.is_between 33 126 byte && not (byte == 34)) }
-{
-    33 <= byte && byte <= 126 && byte != b'"'
-}
-
-/// Whether the text is the name of an access list, which is written between quotes where it is no word.
-pub fn is_list_name(text: &[u8]) -> bool
-    ensures { result ≡ lists.is_name text.now }
-{
-    for byte in text {
-        if !is_list_byte(*byte) {
             return false;
         }
     }

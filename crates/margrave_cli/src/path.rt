@@ -2,7 +2,8 @@ ghost use Rattle.std.specs.Prelude.{◌≡◌, ℕ, List, IfSome, IfNone};
 ghost use Rattle.margrave_cli.specs.Statement.{IsListText, IsPath};
 
 use crate::cuts::{after, before, text_of};
-use crate::names::{is_list_name, is_name, is_word};
+use crate::names::{is_name, is_word};
+use ios_acl::is_name as is_list_name;
 use ios_lex::split_at_byte;
 
 /// The name of a list, which stands between quotes where it is no word.

@@ -98,9 +98,10 @@ fn is_show(statement: &Statement<'_>) -> bool
     matches!(statement, Statement::Show)
 }
 
-/// A text is read as one list of statements at most, or refused at one line for one reason, and not both.
+/// A text is read as one list of statements, or refused at one line for one reason, and not both; none is neither.
 pub fn one_reading()
     ensures same_statements { (text : List ℕ) (statements other : List Meaning) → specs.Reads text statements → specs.Reads text other → statements ≡ other }
     ensures same_refusal { (text : List ℕ) (line other : ℕ) (why reason : Why) → specs.Refuses text line why → specs.Refuses text other reason → (line ≡ other) × (why ≡ reason) }
     ensures not_both { (text : List ℕ) (statements : List Meaning) (line : ℕ) (why : Why) → specs.Reads text statements → specs.Refuses text line why → ⊥ }
+    ensures not_neither { (text : List ℕ) → ((statements : List Meaning) → specs.Reads text statements → ⊥) → ((line : ℕ) (why : Why) → specs.Refuses text line why → ⊥) → ⊥ }
 {}

@@ -3,8 +3,9 @@ ghost use Rattle.std.specs.List.{AllByRecursion};
 ghost use Rattle.mg_outside.specs.Faults.{Rose};
 ghost use Rattle.margrave_cli.specs.Asked.{statement_of};
 ghost use Rattle.margrave_cli.specs.Endings.{HasPacket, IsStepEnd, WritesStep};
-ghost use Rattle.margrave_cli.specs.Run.{AreCarriedOut, Blames, IsWritten, no_routers};
+ghost use Rattle.margrave_cli.specs.Run.{AreCarriedOut, Blames, Counted, IsBreak, IsPerformed, no_routers};
 ghost use Rattle.margrave_cli.specs.Script.{is_ordered};
+ghost use Rattle.margrave_cli.specs.Steps.{reads_of};
 
 use crate::asking::{explore, show};
 use crate::deciding::decide;
@@ -26,9 +27,9 @@ pub fn carry_out_all<F: Files, S: Sink>(
 ) -> Cause
     requires ordered { is_ordered false (map statement_of statements.now) ≡ true }
     requires packets { AllByRecursion HasPacket (map statement_of statements.now) }
-    ensures written { IsWritten
-        (AreCarriedOut script.now (F.holds files.old) (λ file. Rose (F.faults files.old file) (F.faults files.new file)) 1 no_routers (map statement_of statements.now))
-        (S.taken out.old) (S.taken out.new) result }
+    ensures performed { IsPerformed
+        (AreCarriedOut IsBreak script.now (F.holds files.old) (λ file. Rose (F.faults files.old file) (F.faults files.new file)) 1 no_routers (map statement_of statements.now))
+        (F.reads files.old) (F.reads files.new) (S.taken out.old) (S.taken out.new) result }
     ensures blames { Blames (S.faults out.old) (S.faults out.new) result }
 {
     let mut state = State::new(alloc);
@@ -57,9 +58,10 @@ fn carry_out<F: Files, S: Sink>(
     requires ordered { is_ordered (is_some state.old.question) (statement_of statement.now ∷ []) ≡ true }
     requires packet { HasPacket (statement_of statement.now) }
     ensures carried { OnOk result (WritesStep (F.holds files.old) state.old (statement_of statement.now) state.new (S.taken out.old) (S.taken out.new)) }
-    ensures stopped { IfErr result (IsWritten
+    ensures counted { OnOk result (Counted (reads_of state.old (statement_of statement.now)) (F.reads files.old) (F.reads files.new)) }
+    ensures stopped { IfErr result (IsPerformed
         (IsStepEnd at.now.script.now (F.holds files.old) (λ file. Rose (F.faults files.old file) (F.faults files.new file)) at.now.number state.old (statement_of statement.now))
-        (S.taken out.old) (S.taken out.new)) }
+        (F.reads files.old) (F.reads files.new) (S.taken out.old) (S.taken out.new)) }
     ensures same { (other : List ℕ) → F.holds files.new other ≡ F.holds files.old other }
     ensures faults { (other : List ℕ) → F.faults files.old other ≤ F.faults files.new other }
     ensures later { S.faults out.old ≤ S.faults out.new }

@@ -40,84 +40,85 @@ fn a_script_is_answered(rt: HostRuntime) -> Result<(), Fail> {
 }
 
 /// Scripts behind a LOAD of the lists above as `r`, with the end of what they write, and their status.
+const AFTER_LOAD: [(&str, &str, u8); 17] = [
+    (
+        "DECIDE r.acl.10 (10.1.1.4, 0.0.0.0, 0, 0, 0, 0, 0, 0);\n",
+        "permit by 20\n",
+        0,
+    ),
+    (
+        "DECIDE r.acl.10 (1, 0, 0, 0, 255, 63, 255, 255);\n",
+        "deny by default\n",
+        0,
+    ),
+    (
+        "EXPLORE r.acl.10:permit(<req>) AND src_in IN 10.1.1.5;\nSHOW ONE;\n",
+        "no scenario\n",
+        0,
+    ),
+    // The question of the last EXPLORE is shown, whatever is loaded behind it.
+    (
+        "EXPLORE r.acl.10:deny(<req>);\nEXPLORE r.acl.10:permit(<req>) AND src_in IN 10.1.1.5;\nLOAD IOS \"b\" AS q;\nSHOW ONE;\n",
+        "ignored\nno scenario\n",
+        0,
+    ),
+    (
+        "LOAD IOS \"b\" AS q;\nDECIDE q.acl.10 (10.1.1.5, 0, 0, 0, 0, 0, 0, 0);\n",
+        "permit by 10\n",
+        0,
+    ),
+    // The name is tested before the file is read.
+    ("LOAD IOS \"none\" AS r;\n", "refused: s:2: Duplicate\n", 1),
+    (
+        "LOAD IOS \"none\" AS net;\n",
+        "refused: s:2: Duplicate\n",
+        1,
+    ),
+    ("LOAD IOS \"none\" AS q;\n", "read fault: none\n", 3),
+    (
+        "EXPLORE r.acl.11:permit(<req>);\n",
+        "refused: s:2: UnknownPolicy\n",
+        1,
+    ),
+    (
+        "EXPLORE q.acl.10:permit(<req>);\n",
+        "refused: s:2: UnknownPolicy\n",
+        1,
+    ),
+    // A list whose only lines are remarks is not defined.
+    (
+        "EXPLORE r.acl.12:permit(<req>);\n",
+        "refused: s:2: UnknownPolicy\n",
+        1,
+    ),
+    (
+        "EXPLORE r.acl.11:permit(<req>) AND proto IN 256;\n",
+        "refused: s:2: UnknownPolicy\n",
+        1,
+    ),
+    (
+        "EXPLORE r.acl.10:permit(<req>) AND proto IN 255 AND flags IN 1 64;\n",
+        "refused: s:2: OutOfRange\n",
+        1,
+    ),
+    (
+        "DECIDE r.acl.11 (0, 0, 65536, 0, 0, 0, 0, 0);\n",
+        "refused: s:2: UnknownPolicy\n",
+        1,
+    ),
+    (
+        "DECIDE r.acl.10 (0, 0, 0, 0, 0, 64, 0, 0);\n",
+        "refused: s:2: OutOfRange\n",
+        1,
+    ),
+    ("SHOW ONE;\n", "refused: s:2: NoExplore\n", 1),
+    ("SHOW ALL;\n", "refused: s:2: NotBuilt\n", 1),
+];
+
 #[test]
 fn statements_write_their_lines(rt: HostRuntime) -> Result<(), Fail> {
-    let table: [(&str, &str, u8); 17] = [
-        (
-            "DECIDE r.acl.10 (10.1.1.4, 0.0.0.0, 0, 0, 0, 0, 0, 0);\n",
-            "permit by 20\n",
-            0,
-        ),
-        (
-            "DECIDE r.acl.10 (1, 0, 0, 0, 255, 63, 255, 255);\n",
-            "deny by default\n",
-            0,
-        ),
-        (
-            "EXPLORE r.acl.10:permit(<req>) AND src_in IN 10.1.1.5;\nSHOW ONE;\n",
-            "no scenario\n",
-            0,
-        ),
-        // The question of the last EXPLORE is shown, whatever is loaded behind it.
-        (
-            "EXPLORE r.acl.10:deny(<req>);\nEXPLORE r.acl.10:permit(<req>) AND src_in IN 10.1.1.5;\nLOAD IOS \"b\" AS q;\nSHOW ONE;\n",
-            "ignored\nno scenario\n",
-            0,
-        ),
-        (
-            "LOAD IOS \"b\" AS q;\nDECIDE q.acl.10 (10.1.1.5, 0, 0, 0, 0, 0, 0, 0);\n",
-            "permit by 10\n",
-            0,
-        ),
-        // The name is tested before the file is read.
-        ("LOAD IOS \"none\" AS r;\n", "refused: s:2: Duplicate\n", 1),
-        (
-            "LOAD IOS \"none\" AS net;\n",
-            "refused: s:2: Duplicate\n",
-            1,
-        ),
-        ("LOAD IOS \"none\" AS q;\n", "read fault: none\n", 3),
-        (
-            "EXPLORE r.acl.11:permit(<req>);\n",
-            "refused: s:2: UnknownPolicy\n",
-            1,
-        ),
-        (
-            "EXPLORE q.acl.10:permit(<req>);\n",
-            "refused: s:2: UnknownPolicy\n",
-            1,
-        ),
-        // A list whose only lines are remarks is not defined.
-        (
-            "EXPLORE r.acl.12:permit(<req>);\n",
-            "refused: s:2: UnknownPolicy\n",
-            1,
-        ),
-        (
-            "EXPLORE r.acl.11:permit(<req>) AND proto IN 256;\n",
-            "refused: s:2: UnknownPolicy\n",
-            1,
-        ),
-        (
-            "EXPLORE r.acl.10:permit(<req>) AND proto IN 255 AND flags IN 1 64;\n",
-            "refused: s:2: OutOfRange\n",
-            1,
-        ),
-        (
-            "DECIDE r.acl.11 (0, 0, 65536, 0, 0, 0, 0, 0);\n",
-            "refused: s:2: UnknownPolicy\n",
-            1,
-        ),
-        (
-            "DECIDE r.acl.10 (0, 0, 0, 0, 0, 64, 0, 0);\n",
-            "refused: s:2: OutOfRange\n",
-            1,
-        ),
-        ("SHOW ONE;\n", "refused: s:2: NoExplore\n", 1),
-        ("SHOW ALL;\n", "refused: s:2: NotBuilt\n", 1),
-    ];
     let words = one_word(rt.alloc())?;
-    for (script, want, status) in table {
+    for (script, want, status) in AFTER_LOAD {
         let script = format!(in rt.alloc(); "LOAD IOS \"a\" AS r;\n{script}")?;
         let mut files = MemFiles::new(rt.alloc());
         files.put("s", script.as_bytes())?;

@@ -5,7 +5,8 @@ use Rattle.std.specs.Str.{bytes_eq}
 use Rattle.std.proofs.lemmas.Bool.{false≢true}
 use Rattle.std.proofs.lemmas.List.Sums.{sum_by-append}
 use Rattle.std.proofs.lemmas.Slice.Eq.{bytes_eq-Decides}
-use Rattle.mg_outside.specs.Memory.{HeldFiles, failures, bytes_under, one_more, read_is_to_fail}
+use Rattle.mg_outside.specs.Faults.{one_more}
+use Rattle.mg_outside.specs.Memory.{HeldFiles, failures, bytes_under, read_is_to_fail}
 
 -- one more failed read of the name
 pub failures_more : (name : List ℕ) (failed : List (List ℕ)) → failures name (failed ++ name ∷ []) ≡ failures name failed + 1

@@ -1,7 +1,8 @@
 -- Files and sinks in memory.
-use Rattle.std.specs.Prelude.{ℕ, Bool, ◌+◌, ◌-◌, ◌^◌, ◌==◌, ◌||◌, min, List, [], ◌∷◌, ◌++◌, Option, Some, None, Result, Err, is_none, count_by, if◌then◌else◌}
+use Rattle.std.specs.Prelude.{ℕ, Bool, ◌==◌, ◌||◌, List, [], ◌∷◌, ◌++◌, Option, Some, None, Result, Err, is_none, unwrap_or, count_by, if◌then◌else◌}
 use Rattle.std.specs.List.{list_any}
 use Rattle.std.specs.Str.{bytes_eq}
+use Rattle.mg_outside.specs.Faults.{one_more}
 use Rattle.mg_outside.specs.declared.files.FileFault.{FileFault}
 use Rattle.mg_outside.specs.declared.files.FileFault.TheVariants as fault
 
@@ -13,10 +14,6 @@ Entries = List (List ℕ × List ℕ)
 abbrev pub bytes_under : List ℕ → Entries → Option (List ℕ)
 bytes_under name [] = None
 bytes_under name (entry ∷ entries) = if bytes_eq name entry.0 then Some entry.1 else bytes_under name entries
-
--- a count of 64 bits, one higher where it can be
-abbrev pub one_more : ℕ → ℕ
-one_more count = min (count + 1) (2 ^ 64 - 1)
 
 -- files: the entries, the numbers of the reads that are to fail, how many reads there were, and whose reads have failed
 pub record HeldFiles : Type 0 where
@@ -38,6 +35,15 @@ read_is_to_fail files name =
 abbrev pub after_read : {T : Type 0} → HeldFiles → List ℕ → Result T FileFault → HeldFiles
 after_read files name (Err fault.Failed) = record files { reads = one_more files.reads; failed = files.failed ++ name ∷ [] }
 after_read files name answer = record files { reads = one_more files.reads }
+
+-- files that never fail to be read: the entries, and how many reads there were
+pub record HeldSureFiles : Type 0 where
+  pub entries : Entries
+  pub reads : ℕ
+
+-- what stands under a name, and nothing where nothing was put
+abbrev pub held_by : HeldSureFiles → List ℕ → List ℕ
+held_by files name = unwrap_or (bytes_under name files.entries) []
 
 -- a sink: its bytes, the writes that are to fail, each with how many bytes it takes, and how many writes and faults there were
 pub record HeldSink : Type 0 where

@@ -12,7 +12,7 @@ pub record Gives (told : Option (List ℕ)) (most : ℕ) (bytes : List ℕ) : Ty
   pub held : AreTold told bytes
   pub within : length bytes ≤ most
 
--- more bytes than the most were counted, and where they are told there are as many
+-- more bytes than the most were counted, and where its bytes are told the file has at least as many
 abbrev pub Explains : Option (List ℕ) → ℕ → FileFault → Type 0
 Explains told most (fault.TooLong given) = (most < given) × IfSome told (λ held. given ≤ length held)
 Explains told most fault.Failed = Unit {0}

@@ -1,5 +1,5 @@
 ghost use Rattle.std.specs.Prelude.{◌≡◌, ◌≢◌, ◌+◌, ◌≤◌, ℕ, List, Option, IfOk, IfErr};
-ghost use Rattle.mg_outside.specs.Faults.{Rose};
+ghost use Rattle.mg_outside.specs.Faults.{Rose, one_more};
 ghost use Rattle.mg_outside.specs.Reading.{Gives, Explains};
 
 use std::alloc::Global;
@@ -23,6 +23,9 @@ pub trait Files {
     /// How often reads of a name have failed.
     ghost faults: { Self → List ℕ → ℕ };
 
+    /// How many reads there were, up to 2^64 - 1.
+    ghost reads: { Self → ℕ };
+
     /// The bytes of the file of this name, which are at most `most`.
     fn read(&mut self, alloc: Global, name: &str, most: u64) -> Result<Vec<u8>, FileFault>
         ensures bytes { IfOk result (λ bytes. Gives (holds self.old name.now) most bytes.items) }
@@ -30,6 +33,7 @@ pub trait Files {
         ensures failed { result ≡ Err FileFault.Failed → Rose (faults self.old name.now) (faults self.new name.now) }
         ensures no_fault { result ≢ Err FileFault.Failed → (other : List ℕ) → faults self.new other ≡ faults self.old other }
         ensures at_most_one { (other : List ℕ) → faults self.new other ≤ faults self.old other + 1 }
+        ensures counted { reads self.new ≡ one_more (reads self.old) }
         ensures later { (other : List ℕ) → faults self.old other ≤ faults self.new other }
         ensures same { (other : List ℕ) → holds self.new other ≡ holds self.old other };
 }

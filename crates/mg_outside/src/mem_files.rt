@@ -103,6 +103,8 @@ impl Files for MemFiles {
 
     ghost faults = { λ m name. failures name m.failed };
 
+    ghost reads = { λ m. m.reads };
+
     fn read(&mut self, alloc: Global, name: &str, most: u64) -> Result<Vec<u8>, FileFault>
         ensures bytes { IfOk result (λ bytes. Gives (bytes_under name.now self.old.entries) most bytes.items) }
         ensures too_long { IfErr result (Explains (bytes_under name.now self.old.entries) most) }

@@ -88,9 +88,9 @@ fn front(bytes: &[u8], most: u64) -> &[u8]
 
 impl Sink for MemSink {
     ghost use Rattle.std.specs.Prelude.{◌≡◌, ◌≤◌, Some, None, take, OnOk, OnErr, IsNone, IsSomeAnd};
-    ghost use Rattle.mg_outside.specs.Faults.{Rose};
+    ghost use Rattle.mg_outside.specs.Faults.{Rose, one_more};
     ghost use Rattle.mg_outside.specs.Taking.{Takes, TakesFront};
-    ghost use Rattle.mg_outside.specs.Memory.{HeldSink, next_limit, one_more, after_write, after_failure};
+    ghost use Rattle.mg_outside.specs.Memory.{HeldSink, next_limit, after_write, after_failure};
 
     ghost taken = { λ s. Some s.bytes };
 

@@ -1,60 +1,60 @@
 ghost use Rattle.std.specs.Prelude.{◌≡◌};
 
+use crate::output::Output;
 use crate::sink::{Sink, SinkFault};
+use crate::standard_output::StandardOutput;
 use std::io::Print;
-use std::marker::Model;
 
-/// The real standard output. It tells no bytes.
+/// A sink over an output, which in the program is the real standard output. It tells what the output tells, and fails
+/// only where the output did, so never where there are no bytes.
 #[derive(Drop)]
-pub struct StdSink<'a, P> {
-    out: &'a P,
-    faults: u64,
+pub struct StdSink<O> {
+    out: O,
 }
 
-impl<'a, P> Model for StdSink<'a, P> {
-    ghost use Rattle.std.specs.Prelude.{ℕ};
-
-    ghost Value = { ℕ };
-
-    ghost view = { λ x. x.faults };
-}
-
-impl<'a, P: Print> StdSink<'a, P> {
+impl<'a, P: Print> StdSink<StandardOutput<'a, P>> {
     /// The standard output of this runtime. Only `main` and a test call it.
-    pub fn new(out: &'a P) -> StdSink<'a, P>
-        ensures { result ≡ 0 }
+    pub fn new(out: &'a P) -> StdSink<StandardOutput<'a, P>>
+        ensures { result ≡ record { out = 0 } }
     {
-        StdSink { out, faults: 0 }
+        StdSink::over(StandardOutput::new(out))
     }
 }
 
-impl<P: Print> Sink for StdSink<'_, P> {
-    ghost use Rattle.std.specs.Prelude.{◌≡◌, ◌≢◌, ◌+◌, ◌≤◌, None, OnOk, OnErr};
+impl<O: Output> StdSink<O> {
+    /// A sink over this output.
+    pub fn over(out: O) -> StdSink<O>
+        ensures { result ≡ record { out = out } }
+    {
+        StdSink { out }
+    }
+}
+
+impl<O: Output> Sink for StdSink<O> {
+    ghost use Rattle.std.specs.Prelude.{◌≡◌, ◌≢◌, ◌+◌, ◌≤◌, Ok, [], OnOk, OnErr};
     ghost use Rattle.mg_outside.specs.Faults.{Rose};
     ghost use Rattle.mg_outside.specs.Taking.{Takes, TakesFront};
 
-    ghost taken = { λ _. None };
+    ghost taken = { λ s. O.taken s.out };
 
-    ghost faults = { λ s. s };
+    ghost faults = { λ s. O.faults s.out };
 
     fn write_all(&mut self, bytes: &[u8]) -> Result<(), SinkFault>
-        ensures ok { OnOk result (Takes None None bytes.now) }
-        ensures err { OnErr result (TakesFront None None bytes.now) }
-        ensures failed { result ≡ Err SinkFault.Failed → Rose self.old self.new }
-        ensures later { self.old ≤ self.new }
+        ensures ok { OnOk result (Takes (O.taken self.old.out) (O.taken self.new.out) bytes.now) }
+        ensures err { OnErr result (TakesFront (O.taken self.old.out) (O.taken self.new.out) bytes.now) }
+        ensures failed { result ≡ Err SinkFault.Failed → Rose (O.faults self.old.out) (O.faults self.new.out) }
+        ensures no_fault { result ≢ Err SinkFault.Failed → O.faults self.new.out ≡ O.faults self.old.out }
+        ensures at_most_one { O.faults self.new.out ≤ O.faults self.old.out + 1 }
+        ensures later { O.faults self.old.out ≤ O.faults self.new.out }
         ensures takes_no_memory { result ≢ Err SinkFault.NoMemory }
-        ensures no_fault { result ≢ Err SinkFault.Failed → self.new ≡ self.old }
-        ensures at_most_one { self.new ≤ self.old + 1 }
+        ensures empty { bytes.now ≡ [] → result ≡ Ok tt }
     {
         let mut rest = bytes;
         while !rest.is_empty() {
-            match self.out.write_some(rest) {
-                Ok(count) if count > 0 => rest = &rest[count..],
-                _ => {
-                    self.faults = self.faults.saturating_add(1);
-                    return Err(SinkFault::Failed);
-                }
-            }
+            let Ok(count) = self.out.write_some(rest) else {
+                return Err(SinkFault::Failed);
+            };
+            rest = &rest[count..];
         }
         Ok(())
     }

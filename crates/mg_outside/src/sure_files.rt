@@ -9,28 +9,30 @@ use std::marker::Model;
 #[derive(Drop)]
 pub struct SureFiles {
     contents: Contents,
+    reads: u64,
 }
 
 impl Model for SureFiles {
-    ghost use Rattle.mg_outside.specs.Memory.{Entries};
+    ghost use Rattle.mg_outside.specs.Memory.{HeldSureFiles};
 
-    ghost Value = { Entries };
+    ghost Value = { HeldSureFiles };
 
-    ghost view = { λ s. s.contents };
+    ghost view = { λ s. record { entries = s.contents; reads = s.reads } };
 }
 
 impl SureFiles {
     pub fn new(alloc: Global) -> SureFiles
-        ensures { result ≡ [] }
+        ensures { result ≡ record { entries = []; reads = 0 } }
     {
         SureFiles {
             contents: Contents::new(alloc),
+            reads: 0,
         }
     }
 
     /// Gives a name these bytes, in the place of those that it had.
     pub fn put(&mut self, name: &str, bytes: &[u8]) -> Result<(), AllocError>
-        ensures ok { OnOk result (self.new ≡ (name.now, bytes.now) ∷ self.old) }
+        ensures ok { OnOk result (self.new ≡ record self.old { entries = (name.now, bytes.now) ∷ self.old.entries }) }
         ensures err { OnErr result (self.new ≡ self.old) }
     {
         self.contents.put(name, bytes)
@@ -38,21 +40,25 @@ impl SureFiles {
 }
 
 impl Files for SureFiles {
-    ghost use Rattle.std.specs.Prelude.{◌≡◌, ◌≢◌, ◌<◌, [], length, Some, unwrap_or, IfOk, IfErr};
-    ghost use Rattle.mg_outside.specs.Memory.{bytes_under};
+    ghost use Rattle.std.specs.Prelude.{◌≡◌, ◌≢◌, ◌<◌, length, Some, IfOk, IfErr};
+    ghost use Rattle.mg_outside.specs.Faults.{one_more};
+    ghost use Rattle.mg_outside.specs.Memory.{held_by};
     ghost use Rattle.mg_outside.specs.Reading.{Gives, Explains};
 
-    ghost holds = { λ s name. Some (unwrap_or (bytes_under name s) []) };
+    ghost holds = { λ s name. Some (held_by s name) };
 
     ghost faults = { λ _ _. 0 };
 
+    ghost reads = { λ s. s.reads };
+
     fn read(&mut self, alloc: Global, name: &str, most: u64) -> Result<Vec<u8>, FileFault>
-        ensures bytes { IfOk result (λ bytes. Gives (Some (unwrap_or (bytes_under name.now self.old) [])) most bytes.items) }
-        ensures too_long { IfErr result (Explains (Some (unwrap_or (bytes_under name.now self.old) [])) most) }
-        ensures long { most < length (unwrap_or (bytes_under name.now self.old) []) → result ≡ Err (FileFault.TooLong (length (unwrap_or (bytes_under name.now self.old) []))) }
+        ensures bytes { IfOk result (λ bytes. Gives (Some (held_by self.old name.now)) most bytes.items) }
+        ensures too_long { IfErr result (Explains (Some (held_by self.old name.now)) most) }
+        ensures long { most < length (held_by self.old name.now) → result ≡ Err (FileFault.TooLong (length (held_by self.old name.now))) }
         ensures never_fails { result ≢ Err FileFault.Failed }
-        ensures unchanged { self.new ≡ self.old }
+        ensures after { self.new ≡ record self.old { reads = one_more self.old.reads } }
     {
+        self.reads = self.reads.saturating_add(1);
         match self.contents.find(name) {
             Some(entry) => entry.read(alloc, most),
             None => Ok(Vec::new(alloc)),

@@ -1,4 +1,7 @@
+mod slow;
+
 use super::*;
+use slow::{SlowFolder, SlowOutput};
 use std::alloc::Global;
 use std::fs;
 use std::test::Fail;
@@ -23,6 +26,35 @@ fn real_files_are_read_whole(rt: HostRuntime) -> Result<(), Fail> {
 fn standard_output_takes_bytes(rt: HostRuntime) -> Result<(), Fail> {
     let mut out = StdSink::new(&rt);
     assert_eq!(rt; out.write_all(b"text\n"), Ok(()));
+    Ok(())
+}
+
+#[test]
+fn pieces_of_a_file_are_joined(rt: HostRuntime) -> Result<(), Fail> {
+    let mut files = DiskFiles::over(SlowFolder::new(b"text", 9));
+    assert_eq!(rt;
+        files.read(rt.alloc(), "four", 4)?.as_slice(),
+        b"text".as_slice()
+    );
+    assert_eq!(rt;
+        files.read(rt.alloc(), "four", 2),
+        Err(FileFault::TooLong { given: 3 })
+    );
+    let mut failing = DiskFiles::over(SlowFolder::new(b"text", 1));
+    assert_eq!(rt; failing.read(rt.alloc(), "four", 4), Err(FileFault::Failed));
+    assert_eq!(rt;
+        failing.read(rt.alloc(), "four", 2),
+        Err(FileFault::TooLong { given: 3 })
+    );
+    Ok(())
+}
+
+#[test]
+fn pieces_are_written_to_the_end(rt: HostRuntime) -> Result<(), Fail> {
+    let mut out = StdSink::over(SlowOutput::new(rt.alloc(), 5));
+    assert_eq!(rt; out.write_all(b""), Ok(()));
+    assert_eq!(rt; out.write_all(b"text"), Ok(()));
+    assert_eq!(rt; out.write_all(b" more"), Err(SinkFault::Failed));
     Ok(())
 }
 

@@ -1,18 +1,12 @@
 -- How the values of fields are written.
-use Rattle.std.specs.Prelude.{ℕ, ◌/◌, ◌%◌, ◌^◌, Bool, true, false, List, ◌∷◌, ◌++◌, codes}
+use Rattle.std.specs.Prelude.{ℕ, Bool, true, false, List, codes}
 use Rattle.std.specs.Bool.{if◌then◌else◌}
 use Rattle.std.specs.Fmt.{decimal}
 use Rattle.ios_config.specs.declared.request.Field.{Field}
 use Rattle.ios_config.specs.declared.request.Field.TheVariants as field
+use Rattle.ios_lex.specs.Address.{dotted}
 
--- the four bytes of an address joined by dots, 46, the heaviest first
-unfoldable pub dotted : ℕ → List ℕ
-dotted address =
-    decimal (address / 2 ^ 24)
-    ++ 46 ∷ (decimal (address / 2 ^ 16 % 256)
-    ++ 46 ∷ (decimal (address / 2 ^ 8 % 256)
-    ++ 46 ∷ decimal (address % 256)))
-
+-- the name of a field, as tests write it and scenarios print it
 abbrev pub field_name : Field → List ℕ
 field_name field.Entry = codes "entry"
 field_name field.SrcIn = codes "src_in"
@@ -30,6 +24,7 @@ field_name field.DportOut = codes "dport_out"
 field_name field.NextHop = codes "next_hop"
 field_name field.Exit = codes "exit"
 
+-- whether the values of a field are addresses: the source, the destination and the next hop
 abbrev pub is_address : Field → Bool
 is_address field.SrcIn = true
 is_address field.DstIn = true
@@ -38,6 +33,6 @@ is_address field.DstOut = true
 is_address field.NextHop = true
 is_address other = false
 
--- an address is written with dots, and each other value as a number
+-- a value as its field is written: an address with dots, and any other as a number
 abbrev pub shown : Field → ℕ → List ℕ
 shown f value = if is_address f then dotted value else decimal value

@@ -9,7 +9,7 @@ mod value;
 
 pub use std::alloc::AllocError as NoMemory;
 pub use text::{NO_SCENARIO, decision_text, loaded_text, scenario_text};
-pub use value::{Dotted, Shown};
+pub use value::field_name;
 
 #[cfg(test)]
 mod tests;

@@ -7,7 +7,7 @@ ghost use Rattle.frame.specs.Question.{passes};
 ghost use Rattle.session.specs.Text.{decision_line, entry_text, loaded_line, scenario, sign, test_line, value_line, verdict_text};
 
 use crate::NoMemory;
-use crate::value::{Shown, name_of};
+use crate::value::{Shown, field_name};
 use frame::{Test, visible};
 use ios_acl::{Packet, Verdict};
 use ios_config::Field;
@@ -67,7 +67,7 @@ fn push_values(
 fn value_text(alloc: Global, packet: &Packet, field: Field) -> Result<String, NoMemory>
     ensures { IfOk result (λ text. string_bytes text ≡ value_line (request_of packet.now) field) }
 {
-    let name = name_of(field);
+    let name = field_name(field);
     let value = Shown {
         field,
         value: value_of(packet, field),
@@ -96,7 +96,7 @@ fn test_text(alloc: Global, packet: &Packet, test: &Test) -> Result<String, NoMe
     ensures { IfOk result (λ text. string_bytes text ≡ test_line (request_of packet.now) test.now) }
 {
     let sign = sign_of(packet, test);
-    let name = name_of(test.field);
+    let name = field_name(test.field);
     let value = Shown {
         field: test.field,
         value: test.value,

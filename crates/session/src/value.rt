@@ -2,34 +2,14 @@ ghost use Rattle.std.specs.Prelude.{◌≡◌};
 ghost use Rattle.session.specs.Value.{field_name, is_address};
 
 use ios_config::Field;
+use ios_lex::Dotted;
 use std::fmt;
-
-/// An address as it is written: its four bytes joined by dots.
-#[derive(Clone, Copy, Debug)]
-pub struct Dotted(pub u32);
-
-impl fmt::Display for Dotted {
-    ghost use Rattle.std.specs.Prelude.{Some};
-    ghost use Rattle.session.specs.Value.{dotted};
-
-    ghost output = { λ address. Some (dotted address.0) };
-
-    #[tactic(auto, unfolding(crate::specs::Value::dotted))]
-    fn fmt<W: fmt::Write>(&self, f: &mut fmt::Formatter<W>) -> fmt::Result {
-        let address = self.0;
-        let first = address / 0x100_0000;
-        let second = address / 0x1_0000 % 256;
-        let third = address / 0x100 % 256;
-        let fourth = address % 256;
-        write!(f, "{first}.{second}.{third}.{fourth}")
-    }
-}
 
 /// A value as its field is written: an address with dots, each other one as a number.
 #[derive(Clone, Copy, Debug)]
-pub struct Shown {
-    pub field: Field,
-    pub value: u32,
+pub(crate) struct Shown {
+    pub(crate) field: Field,
+    pub(crate) value: u32,
 }
 
 impl fmt::Display for Shown {
@@ -69,7 +49,7 @@ fn is_address(field: Field) -> bool
 }
 
 /// The name of the field.
-pub fn name_of(field: Field) -> &'static str
+pub fn field_name(field: Field) -> &'static str
     ensures { result.now ≡ field_name field }
 {
     match field {

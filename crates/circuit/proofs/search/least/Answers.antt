@@ -1,4 +1,4 @@
-use Rattle.std.proofs.Common.{rules, ◌≡◌, None, length, replicate, ap, ◌∙◌}
+use Rattle.std.proofs.Common.{◌≡◌, length, ap, ◌∙◌}
 use Rattle.std.proofs.lemmas.Bool.{MatchBool-at_false}
 use Rattle.circuit.specs.Search.{IsLeastAfter, NoneAfter}
 use Rattle.circuit.proofs.Found.{none_at_all}
@@ -7,11 +7,10 @@ use Rattle.circuit.proofs.search.least.Goals as goal
 
 pub settle-requires-clause-kept : goal.settle-requires-clause-kept
 settle-requires-clause-kept c =
-    let blank : c.as_slice.result.now ≡ replicate (length c.gates-gates.result.now) None = search rules in
-    rw blank (nothing_settled c.gates-gates.result.now c.as_slice-2.result.now)
+    rw c.in_ok-blank.ensures (nothing_settled c.gates-gates.result.now c.as_slice.result.now)
 
 pub support-requires-clause-count : goal.support-requires-clause-count
-support-requires-clause-count c = ap length (c.as_slice-3.ensures.value ∙ c.in_ok-table.ensures) ∙ length-settled c.gates-gates.result.now c.as_slice-2.result.now
+support-requires-clause-count c = ap length (c.values.ensures ∙ c.in_ok-table.ensures) ∙ length-settled c.gates-gates.result.now c.as_slice.result.now
 
 pub returns-else-branch-clause-none : goal.returns-else-branch-clause-none
 returns-else-branch-clause-none c =

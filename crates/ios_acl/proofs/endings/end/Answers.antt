@@ -3,7 +3,8 @@ use Rattle.std.specs.Bool.{◌==◌}
 use Rattle.std.proofs.lemmas.Bool.{eqb-true, eqb-false}
 use Rattle.std.proofs.lemmas.List.{nil_from_length}
 use Rattle.ios_acl.specs.Parts.{is_log_word}
-use Rattle.ios_acl.proofs.LogForms.{log_read, log_stop, log_stop_behind}
+use Rattle.ios_acl.proofs.LogForms.{log_stop, log_stop_behind}
+use Rattle.ios_acl.proofs.LogWords.{log_read}
 use Rattle.ios_acl.proofs.endings.end.Goals as goal
 
 pub returns-then-not-is_log-clause-stop : goal.returns-then-not-is_log-clause-stop

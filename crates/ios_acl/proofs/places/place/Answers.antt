@@ -4,8 +4,9 @@ use Rattle.std.proofs.lemmas.List.{nil_from_length}
 use Rattle.std.proofs.lemmas.Result.{err_from_is_err_and}
 use Rattle.ios_lex.specs.Address.{IsAddress}
 use Rattle.ios_acl.specs.Parts.{SomePlace}
-use Rattle.ios_acl.proofs.FirstStops.{lacks_none, lacks_word, begins_with_text, is_other}
+use Rattle.ios_acl.proofs.FirstStops.{lacks_none, lacks_word, begins_with_text}
 use Rattle.ios_acl.proofs.PlaceForms.{any_read, host_read, some_read, place_stop, host_stop, some_stop, no_place_begins}
+use Rattle.ios_acl.proofs.WordForms.{words_differ}
 use Rattle.ios_acl.proofs.places.place.Goals as goal
 
 pub returns-in_default-clause-stop : goal.returns-in_default-clause-stop
@@ -41,7 +42,7 @@ returns-in_default-address-clause-stop c =
     let none = rw c.bytes.ensures at c.in_default-address.ensures.none in
     place_stop c.args.words.now c.stop_before-in_default-address.result c.stop_before-in_default-address.ensures.left c.stop_before-in_default-address.ensures.due
     (λ b. lacks_word (SomePlace b) c.args.words.now c.in-Some.rest.now c.in-Some.first.now c.in-Some.ensures.cases.0
-    (no_place_begins c.in-Some.first.now (is_other c.in-Some.first.now (codes "any") any) (is_other c.in-Some.first.now (codes "host") host) none b))
+    (no_place_begins c.in-Some.first.now (words_differ c.in-Some.first.now (codes "any") any) (words_differ c.in-Some.first.now (codes "host") host) none b))
 
 pub returns-in_err-wildcard-clause-stop : goal.returns-in_err-wildcard-clause-stop
 returns-in_err-wildcard-clause-stop c =

@@ -4,8 +4,9 @@ use Rattle.std.proofs.lemmas.List.{nil_from_length}
 use Rattle.std.proofs.lemmas.Result.{err_from_is_err_and}
 use Rattle.ios_lex.specs.Address.{IsAddress}
 use Rattle.ios_acl.specs.Parts.{SomeSourceEnd}
-use Rattle.ios_acl.proofs.FirstStops.{begins_with_text, is_other, lacks_none, lacks_word}
+use Rattle.ios_acl.proofs.FirstStops.{begins_with_text, lacks_none, lacks_word}
 use Rattle.ios_acl.proofs.SourceForms.{source_any, source_host, source_address, no_source_begins, source_stop, source_any_stop, source_host_stop, source_host_end_stop, source_address_stop}
+use Rattle.ios_acl.proofs.WordForms.{words_differ}
 use Rattle.ios_acl.proofs.places.source_end.Goals as goal
 
 pub returns-in_default-clause-stop : goal.returns-in_default-clause-stop
@@ -61,7 +62,7 @@ returns-in_default-address-clause-stop c =
     let none = rw c.bytes.ensures at c.in_default-address.ensures.none in
     source_stop c.args.words.now c.stop_before-in_default-address.result c.stop_before-in_default-address.ensures.left c.stop_before-in_default-address.ensures.due
     (λ b. lacks_word (SomeSourceEnd b) c.args.words.now c.in-Some.rest.now c.in-Some.first.now c.in-Some.ensures.cases.0
-    (no_source_begins c.in-Some.first.now (is_other c.in-Some.first.now (codes "any") any) (is_other c.in-Some.first.now (codes "host") host) none b))
+    (no_source_begins c.in-Some.first.now (words_differ c.in-Some.first.now (codes "any") any) (words_differ c.in-Some.first.now (codes "host") host) none b))
 
 pub returns-in_err-wildcard-clause-stop : goal.returns-in_err-wildcard-clause-stop
 returns-in_err-wildcard-clause-stop c =

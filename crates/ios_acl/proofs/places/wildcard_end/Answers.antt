@@ -2,8 +2,9 @@ use Rattle.std.proofs.Common.{◌≡◌, true, false, codes, rules}
 use Rattle.std.specs.Str.{bytes_eq}
 use Rattle.std.proofs.lemmas.Result.{err_from_is_err_and}
 use Rattle.ios_lex.specs.Address.{IsAddress}
-use Rattle.ios_acl.proofs.FirstStops.{begins_with_text, is_other}
+use Rattle.ios_acl.proofs.FirstStops.{begins_with_text}
 use Rattle.ios_acl.proofs.WildcardForms.{wildcard_some, wildcard_stop, wildcard_log_stop, wildcard_end_stop}
+use Rattle.ios_acl.proofs.WordForms.{words_differ}
 use Rattle.ios_acl.proofs.places.wildcard_end.Goals as goal
 
 pub returns-in_err-end-clause-stop : goal.returns-in_err-end-clause-stop
@@ -20,7 +21,7 @@ returns-in_default-address-clause-stop c =
     let log : bytes_eq c.in-Some.first.now (codes "log") ≡ false = search rules in
     let none = rw c.bytes.ensures at c.in_default-address.ensures.none in
     wildcard_stop c.args.words.now c.in-Some.rest.now c.in-Some.first.now c.stop_before.result c.stop_before.ensures.left c.stop_before.ensures.due c.in-Some.ensures.cases.0
-    (is_other c.in-Some.first.now (codes "log") log) none
+    (words_differ c.in-Some.first.now (codes "log") log) none
 
 pub returns-in_err-end-2-clause-stop : goal.returns-in_err-end-2-clause-stop
 returns-in_err-end-2-clause-stop c =

@@ -2,8 +2,9 @@ use Rattle.std.proofs.Common.{◌≡◌, [], true, false, codes, rules}
 use Rattle.std.specs.Str.{bytes_eq}
 use Rattle.std.proofs.lemmas.List.{nil_from_length}
 use Rattle.ios_acl.specs.Parts.{SomeProto}
-use Rattle.ios_acl.proofs.FirstStops.{begins_with_text, is_other, lacks_none, lacks_word}
+use Rattle.ios_acl.proofs.FirstStops.{begins_with_text, lacks_none, lacks_word}
 use Rattle.ios_acl.proofs.ProtocolWords.{every_read, no_proto_begins, proto_stop, protocol_read}
+use Rattle.ios_acl.proofs.WordForms.{words_differ}
 use Rattle.ios_acl.proofs.spelled.proto_next.Goals as goal
 
 pub returns-in_default-clause-stop : goal.returns-in_default-clause-stop
@@ -22,7 +23,7 @@ returns-in_default-protocol-clause-stop c =
     let none = rw c.bytes.ensures at c.in_default-protocol.ensures.none in
     proto_stop c.args.words.now c.stop_before-in_default-protocol.result c.stop_before-in_default-protocol.ensures.left c.stop_before-in_default-protocol.ensures.due
     (λ b. lacks_word (SomeProto b) c.args.words.now c.in-Some.rest.now c.in-Some.first.now c.in-Some.ensures.cases.0
-    (no_proto_begins c.in-Some.first.now (is_other c.in-Some.first.now (codes "ip") test) none b))
+    (no_proto_begins c.in-Some.first.now (words_differ c.in-Some.first.now (codes "ip") test) none b))
 
 pub returns-clause-read : goal.returns-clause-read
 returns-clause-read c =

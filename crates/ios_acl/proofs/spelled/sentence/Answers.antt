@@ -3,8 +3,9 @@ use Rattle.std.specs.Str.{bytes_eq}
 use Rattle.std.proofs.lemmas.List.{nil_from_length}
 use Rattle.ios_acl.specs.Reading.{Sentence}
 use Rattle.ios_acl.specs.Stops.{IsStop}
-use Rattle.ios_acl.proofs.FirstStops.{begins_with_text, is_other, lacks_none, lacks_word}
+use Rattle.ios_acl.proofs.FirstStops.{begins_with_text, lacks_none, lacks_word}
 use Rattle.ios_acl.proofs.Sentences.{extended_read, no_sentence_begins, remark_read, sentence_stop, standard_read, stop_in_extended, stop_in_standard}
+use Rattle.ios_acl.proofs.WordForms.{words_differ}
 use Rattle.ios_acl.proofs.spelled.sentence.Goals as goal
 
 pub returns-in_default-clause-stop : goal.returns-in_default-clause-stop
@@ -23,7 +24,7 @@ returns-in_default-verdict_of-clause-stop c =
     let test : bytes_eq c.in-Some.first.now (codes "remark") ≡ false = search rules in
     sentence_stop c.args.extended c.args.words.now c.stop_before-in_default-verdict_of.result c.stop_before-in_default-verdict_of.ensures.left c.stop_before-in_default-verdict_of.ensures.due
     (λ b. lacks_word (Sentence c.args.extended b) c.args.words.now c.in-Some.rest.now c.in-Some.first.now c.in-Some.ensures.cases.0
-    (no_sentence_begins c.args.extended c.in-Some.first.now (is_other c.in-Some.first.now (codes "remark") test) c.in_default-verdict_of.ensures.none b))
+    (no_sentence_begins c.args.extended c.in-Some.first.now (words_differ c.in-Some.first.now (codes "remark") test) c.in_default-verdict_of.ensures.none b))
 
 pub returns-in_err-entry-clause-stop : goal.returns-in_err-entry-clause-stop
 returns-in_err-entry-clause-stop c =

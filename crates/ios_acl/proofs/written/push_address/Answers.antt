@@ -1,5 +1,5 @@
 use Rattle.std.proofs.Common.{rules, append_assoc}
-use Rattle.ios_acl.specs.Spelling.{dotted}
+use Rattle.ios_lex.specs.Address.{dotted}
 use Rattle.ios_acl.proofs.written.push_address.Goals as goal
 
 pub returns : goal.returns

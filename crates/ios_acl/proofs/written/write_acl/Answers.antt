@@ -1,7 +1,7 @@
 use Rattle.std.proofs.Common.{◌≡◌, ◌<◌, ◌++◌, length, ap, ◌∙◌, arith}
 use Rattle.std.proofs.lemmas.List.{take_all}
-use Rattle.ios_acl.specs.Spelling.{opening_line, entry_lines}
-use Rattle.ios_acl.proofs.BlockTexts.{lines_more}
+use Rattle.ios_acl.specs.Spelling.{opening_line}
+use Rattle.ios_acl.proofs.BlockTexts.{entry_lines, lines_more}
 use Rattle.ios_acl.proofs.WrittenBlocks.{written_block}
 use Rattle.ios_acl.proofs.written.write_acl.Goals as goal
 

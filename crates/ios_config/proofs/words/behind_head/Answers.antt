@@ -1,5 +1,5 @@
 use Rattle.std.proofs.Common.{◌≡◌, ◌∷◌, codes}
-use Rattle.ios_config.proofs.Absence.{none_weaker}
+use Rattle.ios_lex.proofs.Absence.{none_weaker}
 use Rattle.ios_config.proofs.words.behind_head.Goals as goal
 
 pub returns-clause-none : goal.returns-clause-none

@@ -4,7 +4,7 @@ use Rattle.ios_lex.specs.declared.reason.IosReason.TheVariants as ios
 use Rattle.ios_acl.specs.Refusal.{is_among, unmodelled}
 use Rattle.ios_config.specs.Line.{rule_words}
 use Rattle.ios_config.specs.Taking.{IsNoRule, no_rule, not_modelled, other}
-use Rattle.ios_config.proofs.Absence.{fault_for}
+use Rattle.ios_config.proofs.AclFaults.{fault_for}
 use Rattle.ios_config.proofs.words.check_rule.Goals as goal
 
 pub returns-in_default-clause-refused : goal.returns-in_default-clause-refused
@@ -12,15 +12,15 @@ returns-in_default-clause-refused c =
     let none : c.args.words.now ≡ [] = nil_from_length c.args.words.now c.in_default.ensures.cases in
     rw none no_rule
 
-pub returns-then-is_unmodelled-clause-refused : goal.returns-then-is_unmodelled-clause-refused
-returns-then-is_unmodelled-clause-refused c =
+pub returns-then-is_not_modelled-clause-refused : goal.returns-then-is_not_modelled-clause-refused
+returns-then-is_not_modelled-clause-refused c =
     let whole : c.args.words.now ≡ c.in-Some.first.now ∷ c.in-Some.field-0-1.now = search rules in
-    let among : is_among (codes "dynamic" ∷ unmodelled) c.in-Some.first.now ≡ true = sym c.is_unmodelled.ensures ∙ c.if-is_unmodelled.true in
+    let among : is_among (codes "dynamic" ∷ unmodelled) c.in-Some.first.now ≡ true = sym c.is_not_modelled.ensures ∙ c.if-is_not_modelled.true in
     fault_for (IsNoRule c.args.words.now) (ios.Unmodelled c.in-Some.first.now) c.unmodelled.result (rw whole (not_modelled c.in-Some.first.now c.in-Some.field-0-1.now among)) c.unmodelled.ensures
 
 pub returns-else-is_rule_word-clause-refused : goal.returns-else-is_rule_word-clause-refused
 returns-else-is_rule_word-clause-refused c =
     let whole : c.args.words.now ≡ c.in-Some.first.now ∷ c.in-Some.field-0-1.now = search rules in
-    let not_unmodelled : is_among (codes "dynamic" ∷ unmodelled) c.in-Some.first.now ≡ false = sym c.is_unmodelled.ensures ∙ c.if-is_unmodelled.false in
+    let not_unmodelled : is_among (codes "dynamic" ∷ unmodelled) c.in-Some.first.now ≡ false = sym c.is_not_modelled.ensures ∙ c.if-is_not_modelled.false in
     let no_rule_word : is_among rule_words c.in-Some.first.now ≡ false = sym c.is_rule_word.ensures ∙ c.if-is_rule_word.false in
     rw whole (other c.in-Some.first.now c.in-Some.field-0-1.now not_unmodelled no_rule_word)

@@ -19,6 +19,11 @@ invariant_of-self-2 c =
     let next = masked_next c.args.self.now c.args.bits.now c.args.value c.args.wildcard c.requires.nodes circuit in
     rw (whole c) (c.self.invariant.0 ∙ ap input_count c.self.view_is ∙ sym next.0, next.1)
 
+pub returns-clause-inputs : goal.returns-clause-inputs
+returns-clause-inputs c =
+    let circuit : IsCircuit c.args.self.now = rw (← c.self.view_is) c.self.invariant.1 in
+    rw (whole c) (masked_next c.args.self.now c.args.bits.now c.args.value c.args.wildcard c.requires.nodes circuit).0
+
 pub returns-clause-value : goal.returns-clause-value
 returns-clause-value c = λ inputs.
     let at : c.at.result ≡ length c.args.self.now + 2 = search rules in

@@ -4,7 +4,7 @@ use Rattle.std.proofs.lemmas.List.{nil_from_length}
 use Rattle.ios_lex.specs.declared.reason.IosReason.TheVariants as ios
 use Rattle.ios_config.specs.Line.{IsBlockRefused}
 use Rattle.ios_config.specs.Line as line_of
-use Rattle.ios_config.proofs.Absence.{fault_for}
+use Rattle.ios_config.proofs.AclFaults.{fault_for}
 use Rattle.ios_config.proofs.Heads.{more_words, no_more}
 use Rattle.ios_config.proofs.draft.Draft.head.Goals as goal
 
@@ -29,7 +29,7 @@ pub returns-then-is_number_of-clause-refused : goal.returns-then-is_number_of-cl
 returns-then-is_number_of-clause-refused c =
     let whole : c.args.words.now ≡ c.in-Some.first.now ∷ c.in-Some.rest.now = search rules in
     let more : c.in-Some.rest.now ≡ c.in-Some-split_first.name.now ∷ c.in-Some-split_first.more.now = search rules in
-    let number = c.if-is_number_of.ensures.0 refl in
+    let number = rw c.bytes.ensures at (c.if-is_number_of.ensures.0 refl) in
     rw (whole, c.in-Some-kind.ensures.found, more)
     (line_of.kind c.in-Some-kind.extended c.in-Some-split_first.name.now number.0 c.in-Some-split_first.more.now number.1 number.2)
 
@@ -40,7 +40,7 @@ returns-then-is_other_kind-clause-refused c =
     let other = rw c.as_slice.ensures.value at (c.if-is_other_kind.ensures.0 refl) in
     rw (← c.self.view_is, whole, c.in-Some-kind.ensures.found, more)
     (line_of.begun c.in-Some-kind.extended c.in-Some-split_first.name.now c.in-Some-split_first.more.now
-    (λ n number kind. false≢true (c.if-is_number_of.ensures.1 (n, number, kind))) other)
+    (λ n number kind. false≢true (c.if-is_number_of.ensures.1 (n, rw c.bytes.ensures number, kind))) other)
 
 pub returns-then-not-is_empty-clause-refused : goal.returns-then-not-is_empty-clause-refused
 returns-then-not-is_empty-clause-refused c =
@@ -49,7 +49,7 @@ returns-then-not-is_empty-clause-refused c =
     let some = rw c.is_empty.ensures at c.if-not-is_empty.true in
     rw (← c.self.view_is)
     (more_words _ c.args.words.now c.in-Some-split_first.more.now c.in-Some-kind.extended c.in-Some-split_first.name.now (rw (whole, c.in-Some-kind.ensures.found, more) refl) some
-    (λ n number kind. false≢true (c.if-is_number_of.ensures.1 (n, number, kind)))
+    (λ n number kind. false≢true (c.if-is_number_of.ensures.1 (n, rw c.bytes.ensures number, kind)))
     (λ other. false≢true (c.if-is_other_kind.ensures.1 (rw c.as_slice.ensures.value other))))
 
 pub returns-else-is_name-clause-refused : goal.returns-else-is_name-clause-refused
@@ -57,7 +57,7 @@ returns-else-is_name-clause-refused c =
     let whole : c.args.words.now ≡ c.in-Some.first.now ∷ c.in-Some.rest.now = search rules in
     let more : c.in-Some.rest.now ≡ c.in-Some-split_first.name.now ∷ c.in-Some-split_first.more.now = search rules in
     let none : c.in-Some-split_first.more.now ≡ [] = no_more c.in-Some-split_first.more.now (rw c.is_empty.ensures at c.if-not-is_empty.false) in
-    let bytes = sym c.is_name.ensures ∙ c.if-is_name.false in
+    let bytes = rw c.bytes-2.ensures at (sym c.is_name.ensures ∙ c.if-is_name.false) in
     rw (← c.self.view_is, whole, c.in-Some-kind.ensures.found, more, none)
-    (line_of.bytes c.in-Some-kind.extended c.in-Some-split_first.name.now (λ n number kind. false≢true (c.if-is_number_of.ensures.1 (n, number, kind)))
+    (line_of.bytes c.in-Some-kind.extended c.in-Some-split_first.name.now (λ n number kind. false≢true (c.if-is_number_of.ensures.1 (n, rw c.bytes.ensures number, kind)))
     (λ other. false≢true (c.if-is_other_kind.ensures.1 (rw c.as_slice.ensures.value other))) bytes)
