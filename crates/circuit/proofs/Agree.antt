@@ -7,7 +7,8 @@ use Rattle.std.proofs.lemmas.Bool.Decides.{nat_tests}
 use Rattle.std.proofs.lemmas.List.{length-map}
 use Rattle.std.proofs.lemmas.Nat.Bits.{bit_at-lt}
 use Rattle.std.proofs.Math.Nat.{div-one, div-div-eq-div-mul, pow-suc}
-use Rattle.circuit.specs.Number.{number, agrees}
+use Rattle.bit_patterns.specs.Patterns.{agrees}
+use Rattle.circuit.specs.Number.{number}
 use Rattle.circuit.specs.Gates.{fixed_nodes}
 
 abbrev pub digit : Bool → ℕ

@@ -8,7 +8,8 @@ use Rattle.std.proofs.lemmas.List.Folds.{list_all-append}
 use Rattle.circuit.specs.declared.gate.Gate.{Gate}
 use Rattle.circuit.specs.declared.gate.Gate.TheVariants as gate
 use Rattle.circuit.specs.Value.{value, values, value_at, gate_value, AreNodes, IsCircuit, IsNext, is_input, input_count}
-use Rattle.circuit.specs.Number.{number, agrees}
+use Rattle.bit_patterns.specs.Patterns.{agrees}
+use Rattle.circuit.specs.Number.{number}
 use Rattle.circuit.specs.Gates.{masked_gates, fixed_nodes, differing_gate}
 use Rattle.circuit.proofs.Agree.{agrees-fixed}
 use Rattle.circuit.proofs.Below.{below-weaker, below_push}

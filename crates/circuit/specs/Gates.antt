@@ -4,7 +4,7 @@ use Rattle.std.specs.Int.{bit_at}
 use Rattle.circuit.specs.declared.gate.Gate.{Gate}
 use Rattle.circuit.specs.declared.gate.Gate.TheVariants as gate
 use Rattle.circuit.specs.Value.{input_count}
-use Rattle.circuit.specs.Number.{agrees}
+use Rattle.bit_patterns.specs.Patterns.{agrees}
 
 abbrev pub with_gate : List Gate → Gate → List Gate
 with_gate gates g = gates ++ g ∷ []

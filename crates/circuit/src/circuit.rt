@@ -3,7 +3,8 @@ ghost use Rattle.std.specs.List.{list_any, list_all};
 ghost use Rattle.circuit.specs.declared.gate.Gate.{Gate};
 ghost use Rattle.circuit.specs.declared.gate.Gate.TheVariants as gate;
 ghost use Rattle.circuit.specs.Value.{AreNodes, Extends, IsNext, IsCircuit, values, value as node_value, value_at, gate_value, is_input, input_count};
-ghost use Rattle.circuit.specs.Number.{number, agrees};
+ghost use Rattle.bit_patterns.specs.Patterns.{agrees, within};
+ghost use Rattle.circuit.specs.Number.{number};
 ghost use Rattle.circuit.specs.Gates.{with_gate, with_input, with_masked, masked_gates, fixed_nodes, with_range, range_gates, with_equal, equal_gates};
 
 use crate::NoMemory;
@@ -143,7 +144,7 @@ impl Circuit {
         ensures last { IfOk result (λ node. length self.new ≡ node + 1) }
         ensures inputs { OnOk result (input_count self.new ≡ input_count self.old) }
         ensures circuit { OnOk result (self.new ≡ with_range self.old bits.now lo hi) }
-        ensures value { IfOk result (λ node. (inputs : List Bool) → node_value self.new inputs node ≡ (nat_le lo (number (map (node_value self.old inputs) bits.now)) && nat_le (number (map (node_value self.old inputs) bits.now)) hi)) }
+        ensures value { IfOk result (λ node. (inputs : List Bool) → node_value self.new inputs node ≡ within lo hi (number (map (node_value self.old inputs) bits.now))) }
         ensures older { Extends self.old self.new }
         ensures err { OnErr result (self.new ≡ self.old) }
     {

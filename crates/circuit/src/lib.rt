@@ -3,7 +3,7 @@
 //! A circuit is a list of gates, each over nodes that were there before it; a node is a place in that list.
 //! Each call that adds gates says what its node is worth, that older nodes keep their values, and which circuit it
 //! leaves; `least` says which inputs make a node true, the least in dictionary order, or that none do.
-//! `margrave_cli` makes its questions of these gates.
+//! `frame` makes its questions of these gates.
 #![tactic(auto)]
 
 mod circuit;
@@ -22,6 +22,3 @@ pub use gate::{Gate, Node, Parts};
 pub use laws::gates_are_tests;
 pub use search::least;
 pub use std::alloc::AllocError as NoMemory;
-
-#[cfg(test)]
-mod tests;

@@ -1,9 +1,10 @@
 ghost use Rattle.std.specs.Prelude.{◌≡◌, ◌≤◌, ◌<◌, ◌+◌, ◌/◌, ◌^◌, length, IfOk};
-ghost use Rattle.circuit.specs.Number.{agrees};
+ghost use Rattle.bit_patterns.specs.Patterns.{agrees as agrees_lem};
 ghost use Rattle.circuit.specs.Gates.{masked_gates, fixed_nodes};
 
 use crate::NoMemory;
 use crate::gate::{Gate, Node, Parts};
+use bit_patterns::agrees;
 use std::alloc::Global;
 
 /// The gates of a wildcard test, behind this many nodes. The last gate is the test.
@@ -35,13 +36,12 @@ pub(crate) fn masked_gates(
 /// Whether a number of this many bits, which has zeros above them, agrees with the value there.
 fn agree_above(count: usize, value: u128, wildcard: u128) -> bool
     requires { count ≤ 128 }
-    ensures { result ≡ agrees 0 (value / 2 ^ count) (wildcard / 2 ^ count) }
+    ensures { result ≡ agrees_lem 0 (value / 2 ^ count) (wildcard / 2 ^ count) }
 {
     if count == 128 {
         return true;
     }
-    let high = wildcard >> count;
-    (value >> count) | high == high
+    agrees(0, value >> count, wildcard >> count)
 }
 
 /// The nodes of a number, its highest bit first, that have to be this bit.

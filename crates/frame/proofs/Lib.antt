@@ -6,6 +6,7 @@ pub mod Narrowing
 pub mod PermittedPackets
 pub mod ShownTests
 pub mod Scenarios
+pub mod MissedNumbers
 pub mod MissedEntries
 pub mod Dictionary
 pub mod FirstOrNone

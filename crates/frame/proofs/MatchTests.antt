@@ -4,7 +4,7 @@ use Rattle.std.specs.Int.Bits.{or_zero_r, xor_zero_l, xor_zero_r, xor_self, xor_
 use Rattle.std.proofs.lemmas.Bool.{agree_below_at, cases_order, eq-eqb, ne_eqb, le-leb, lt-leb, and_left, and_right, and_from}
 use Rattle.std.proofs.lemmas.Bool.Decides.{eqb_tells}
 use Rattle.std.proofs.lemmas.Nat.{le_or_r, or_of_32, xor_of_32}
-use Rattle.circuit.specs.Number.{agrees}
+use Rattle.bit_patterns.specs.Patterns.{agrees}
 
 xor_zero : (x v : ℕ) → bit_xor x v ≡ 0 → x ≡ v
 xor_zero x v none =

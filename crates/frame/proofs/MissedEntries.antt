@@ -1,64 +1,29 @@
 -- Which entries match no packet that passes the tests of a question.
-use Rattle.std.proofs.Common.{◌≡◌, ℕ, ◌<◌, ◌&&◌, max, Bool, true, false, not, cond, Option, Some, None, unwrap_or, List, [], ◌∷◌, ◌++◌, length, get_or, drop, ◌+◌, append_assoc, add-one, bit_or, refl, sym, ap, ◌∙◌, arith}
-use Rattle.std.specs.Int.{bit_at}
+use Rattle.std.proofs.Common.{◌≡◌, ℕ, ◌<◌, ◌&&◌, Bool, true, false, not, cond, Some, List, [], ◌∷◌, ◌++◌, length, get_or, drop, ◌+◌, append_assoc, add-one, refl, sym, ap, ◌∙◌}
 use Rattle.std.specs.List.{find, list_all}
 use Rattle.std.specs.Option.{option_or}
 use Rattle.std.proofs.lemmas.Bool.{false≢true}
-use Rattle.std.proofs.lemmas.Bool.Decides.{Decides-eqb}
 use Rattle.std.proofs.Math.Seq.{drop-cons}
-use Rattle.std.proofs.lemmas.Nat.Bits.{bit_at_or}
 use Rattle.std.proofs.lemmas.List.Folds.{find-append, list_all_at}
 use Rattle.ios_acl.specs.declared.entry.Entry.{Entry}
 use Rattle.ios_acl.specs.declared.packet.Packet.{Packet}
 use Rattle.ios_acl.specs.Decision.{decision, verdict_by}
-use Rattle.ios_acl.specs.Matching.{matches, matches_wildcard}
-use Rattle.ios_acl.proofs.BitTests.{wildcard_by_bits}
+use Rattle.ios_acl.specs.Matching.{matches}
 use Rattle.ios_acl.specs.declared.entry.Verdict.{Verdict}
 use Rattle.ios_acl.specs.declared.entry.Verdict.TheVariants as verdict
 use Rattle.frame.specs.declared.question.Test.{Test}
 use Rattle.frame.specs.Meaning.{decides, is_permit}
-use Rattle.frame.specs.Question.{agrees, passes}
+use Rattle.frame.specs.Question.{passes}
 use Rattle.frame.specs.Scenario.{request_of}
 use Rattle.frame.proofs.Scenarios.{answers}
-
-is_false : (b : Bool) → (b ≡ true → ⊥) → b ≡ false
-is_false true never = absurd (never refl)
-is_false false never = refl
 
 is_true : (b : Bool) → (b ≡ false → ⊥) → b ≡ true
 is_true true never = refl
 is_true false never = absurd (never refl)
 
-pub not_true : (b : Bool) → not b ≡ true → b ≡ false
-not_true true is = absurd (false≢true is)
-not_true false is = refl
-
 and_false : (b : Bool) → (b && false) ≡ false
 and_false true = refl
 and_false false = refl
-
-neither_one : (w u : ℕ) → max w u ≡ 0 → (w ≡ 0) × (u ≡ 0)
-neither_one w u none = (omega arith, omega arith)
-
--- two values with which one number agrees are the same outside both wildcards
-pub agree_outside : (x a w v u : ℕ) → matches_wildcard x a w ≡ true → matches_wildcard x v u ≡ true → matches_wildcard a v (bit_or w u) ≡ true
-agree_outside x a w v u first second = (wildcard_by_bits a v (bit_or w u)).1 same
-  where
-    same : (place : ℕ) → bit_at (bit_or w u) place ≡ 0 → bit_at a place ≡ bit_at v place
-    same place none =
-        let zeros = neither_one (bit_at w place) (bit_at u place) (sym (bit_at_or w u place) ∙ none) in
-        sym ((wildcard_by_bits x a w).0 first place zeros.0) ∙ (wildcard_by_bits x v u).0 second place zeros.1
-
--- a test without a wildcard is one with the wildcard 0
-pub agrees_masked : (x value : ℕ) (wildcard : Option ℕ) → agrees x value wildcard ≡ true → matches_wildcard x value (unwrap_or wildcard 0) ≡ true
-agrees_masked x value None is = (wildcard_by_bits x value 0).1 (λ place none. ap (λ n. bit_at n place) ((Decides-eqb x value).0 is))
-agrees_masked x value (Some w) is = is
-
--- where two values differ outside both wildcards, no number agrees with both
-pub apart : (a w value : ℕ) (wildcard : Option ℕ) → matches_wildcard a value (bit_or w (unwrap_or wildcard 0)) ≡ false
-    → (x : ℕ) → agrees x value wildcard ≡ true → matches_wildcard x a w ≡ false
-apart a w value wildcard differ x is =
-    is_false (matches_wildcard x a w) (λ both. false≢true (sym differ ∙ agree_outside x a w value (unwrap_or wildcard 0) both (agrees_masked x value wildcard is)))
 
 -- a test among those that are passed is passed
 pub passed_at : {X : Type 0} (p : X → Bool) (xs : List X) (i : ℕ) (d : X) → i < length xs → list_all p xs ≡ true → p (get_or xs i d) ≡ true

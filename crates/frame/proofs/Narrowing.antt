@@ -3,6 +3,7 @@ use Rattle.std.proofs.Common.{◌≡◌, ℕ, ◌<◌, ◌&&◌, Bool, true, Lis
 use Rattle.std.specs.List.{list_all}
 use Rattle.std.proofs.Math.Bool.{and-true, and_assoc}
 use Rattle.std.proofs.lemmas.List.Folds.{list_all-append}
+use Rattle.bit_patterns.specs.Patterns.{agrees}
 use Rattle.circuit.specs.declared.gate.Gate.{Gate}
 use Rattle.circuit.specs.Value.{Extends, value}
 use Rattle.circuit.proofs.Below.{below_push}
@@ -10,7 +11,7 @@ use Rattle.circuit.proofs.Extend.{AreNodes-extends, Extends-refl, Extends-trans}
 use Rattle.circuit.proofs.Wildcard.{all_agree}
 use Rattle.ios_acl.specs.declared.entry.Entry.{Entry}
 use Rattle.ios_acl.specs.declared.packet.Packet.{Packet}
-use Rattle.ios_acl.specs.Matching.{matches, matches_code, matches_established, matches_icmp, matches_port, matches_wildcard}
+use Rattle.ios_acl.specs.Matching.{matches, matches_code, matches_established, matches_icmp, matches_port}
 use Rattle.frame.specs.Bits.{IsPacketOf}
 use Rattle.frame.specs.Meaning.{Adds, AllMean, Narrows}
 
@@ -82,8 +83,8 @@ only_one (node ∷ other ∷ nodes) d long = absurd (omega arith)
 -- the seven parts of an entry
 pub narrows_to_match : {a b c d e f g h : List Gate} {n o p q r s t u : List ℕ} (entry : Entry)
     → Narrows a b n o (λ packet. matches_code packet.proto entry.proto)
-    → Narrows b c o p (λ packet. matches_wildcard packet.src entry.src.0 entry.src.1)
-    → Narrows c d p q (λ packet. matches_wildcard packet.dst entry.dst.0 entry.dst.1)
+    → Narrows b c o p (λ packet. agrees packet.src entry.src.0 entry.src.1)
+    → Narrows c d p q (λ packet. agrees packet.dst entry.dst.0 entry.dst.1)
     → Narrows d e q r (λ packet. matches_port packet.sport entry.sport)
     → Narrows e f r s (λ packet. matches_port packet.dport entry.dport)
     → Narrows f g s t (λ packet. matches_icmp packet.icmp_type packet.icmp_code entry.icmp)

@@ -1,5 +1,5 @@
 -- The tests that are shown, one more at a time.
-use Rattle.std.proofs.Common.{◌≡◌, ℕ, ◌+◌, ◌<◌, ◌==◌, ◌&&◌, ◌||◌, not, Bool, true, false, Option, Some, None, List, [], ◌∷◌, ◌++◌, length, take, get_or, refl, sym, ap, ◌∙◌, if◌then◌else◌, append-nil, subst, ◌↔◌}
+use Rattle.std.proofs.Common.{◌≡◌, ℕ, ◌+◌, ◌<◌, ◌==◌, ◌||◌, not, Bool, true, false, List, [], ◌∷◌, ◌++◌, length, take, get_or, refl, sym, ap, ap₂, ◌∙◌, if◌then◌else◌, append-nil, subst, ◌↔◌}
 use Rattle.std.specs.List.{filter, list_any}
 use Rattle.std.proofs.lemmas.Bool.{and_from, and_parts, eq-eqb, eqb-true, false_from_ne_true, false≢true}
 use Rattle.std.proofs.lemmas.List.{take_more}
@@ -8,29 +8,65 @@ use Rattle.std.proofs.lemmas.Map.Views.{any-filter_same}
 use Rattle.ios_config.specs.declared.request.Field.{Field}
 use Rattle.ios_config.specs.declared.request.Field.TheVariants as field
 use Rattle.ios_config.specs.Request.{fields, place}
+use Rattle.frame.specs.declared.question.Pattern.{Pattern}
+use Rattle.frame.specs.declared.question.Pattern.TheVariants as pattern
 use Rattle.frame.specs.declared.question.Test.{Test}
-use Rattle.frame.specs.Scenario.{same_test, same_wildcard, visible}
+use Rattle.frame.specs.Scenario.{same_pattern, same_test, visible}
 
-eqb-trans : (a b c : ℕ) → (a == b) ≡ true → (b == c) ≡ true → (a == c) ≡ true
-eqb-trans a b c first second = eq-eqb a c (eqb-true a b first ∙ eqb-true b c second)
+same_field : (a b : Field) → place a ≡ place b → a ≡ b
+same_field a b same = sym (from_place a) ∙ ap at_place same ∙ from_place b
+  where
+    at_place : ℕ → Field
+    at_place n = get_or fields n field.Entry
 
-same_wildcard-trans : (a b c : Option ℕ) → same_wildcard a b ≡ true → same_wildcard b c ≡ true → same_wildcard a c ≡ true
-same_wildcard-trans None None None first second = refl
-same_wildcard-trans None None (Some w) first second = second
-same_wildcard-trans None (Some v) c first second = absurd (false≢true first)
-same_wildcard-trans (Some u) None c first second = absurd (false≢true first)
-same_wildcard-trans (Some u) (Some v) None first second = second
-same_wildcard-trans (Some u) (Some v) (Some w) first second = eqb-trans u v w first second
+    from_place : (f : Field) → at_place (place f) ≡ f
+    from_place field.Entry = refl
+    from_place field.SrcIn = refl
+    from_place field.DstIn = refl
+    from_place field.SportIn = refl
+    from_place field.DportIn = refl
+    from_place field.Proto = refl
+    from_place field.Flags = refl
+    from_place field.IcmpType = refl
+    from_place field.IcmpCode = refl
+    from_place field.SrcOut = refl
+    from_place field.DstOut = refl
+    from_place field.SportOut = refl
+    from_place field.DportOut = refl
+    from_place field.NextHop = refl
+    from_place field.Exit = refl
+
+patterns_are_one : (a b : Pattern) → same_pattern a b ≡ true → a ≡ b
+patterns_are_one (pattern.Masked value wildcard) (pattern.Masked v w) same =
+    let parts = and_parts (value == v) (wildcard == w) same in
+    ap₂ (λ x y. pattern.Masked x y) (eqb-true value v parts.0) (eqb-true wildcard w parts.1)
+patterns_are_one (pattern.Masked value wildcard) (pattern.Range low high) same = absurd (false≢true same)
+patterns_are_one (pattern.Range low high) (pattern.Masked value wildcard) same = absurd (false≢true same)
+patterns_are_one (pattern.Range low high) (pattern.Range l h) same =
+    let parts = and_parts (low == l) (high == h) same in
+    ap₂ (λ x y. pattern.Range x y) (eqb-true low l parts.0) (eqb-true high h parts.1)
+
+same_pattern-refl : (a : Pattern) → same_pattern a a ≡ true
+same_pattern-refl (pattern.Masked value wildcard) = and_from (value == value) (wildcard == wildcard) (eq-eqb value value refl) (eq-eqb wildcard wildcard refl)
+same_pattern-refl (pattern.Range low high) = and_from (low == low) (high == high) (eq-eqb low low refl) (eq-eqb high high refl)
+
+tests_are_one : (a b : Test) → same_test a b ≡ true → a ≡ b
+tests_are_one a b same =
+    let parts = and_parts (place a.field == place b.field) (same_pattern a.pattern b.pattern) same in
+    let test : Field → Pattern → Test = λ x y. record { field = x; pattern = y } in
+    ap₂ test (same_field a.field b.field (eqb-true (place a.field) (place b.field) parts.0)) (patterns_are_one a.pattern b.pattern parts.1)
+
+-- two tests are the same where they have the same field and pattern
+pub same_tests : (a b : Test) → (same_test a b ≡ true) ↔ (a ≡ b)
+same_tests a b = (tests_are_one a b, same)
+  where
+    same : a ≡ b → same_test a b ≡ true
+    same is =
+        let itself : same_test a a ≡ true = and_from (place a.field == place a.field) (same_pattern a.pattern a.pattern) (eq-eqb (place a.field) (place a.field) refl) (same_pattern-refl a.pattern) in
+        subst (λ t. same_test a t ≡ true) is itself
 
 same_test-trans : (a b c : Test) → same_test a b ≡ true → same_test b c ≡ true → same_test a c ≡ true
-same_test-trans a b c first second =
-    let one = and_parts ((place a.field == place b.field) && (a.value == b.value)) (same_wildcard a.wildcard b.wildcard) first in
-    let two = and_parts ((place b.field == place c.field) && (b.value == c.value)) (same_wildcard b.wildcard c.wildcard) second in
-    let front = and_parts (place a.field == place b.field) (a.value == b.value) one.0 in
-    let back = and_parts (place b.field == place c.field) (b.value == c.value) two.0 in
-    and_from ((place a.field == place c.field) && (a.value == c.value)) (same_wildcard a.wildcard c.wildcard)
-    (and_from (place a.field == place c.field) (a.value == c.value) (eqb-trans (place a.field) (place b.field) (place c.field) front.0 back.0) (eqb-trans a.value b.value c.value front.1 back.1))
-    (same_wildcard-trans a.wildcard b.wildcard c.wildcard one.1 two.1)
+same_test-trans a b c first second = subst (λ t. same_test t c ≡ true) (sym (tests_are_one a b first)) second
 
 -- the tests that are not the same as this one
 abbrev others : Test → List Test → List Test
@@ -89,56 +125,3 @@ pub shown_before : (tests : List Test) (i : ℕ) (d : Test) (shown : List Test) 
 shown_before tests i d shown inside are old =
     let rest = visible_more tests i d inside in
     sym (rw (← are, old) at rest)
-
-same_field : (a b : Field) → place a ≡ place b → a ≡ b
-same_field a b same = sym (from_place a) ∙ ap at_place same ∙ from_place b
-  where
-    at_place : ℕ → Field
-    at_place n = get_or fields n field.Entry
-
-    from_place : (f : Field) → at_place (place f) ≡ f
-    from_place field.Entry = refl
-    from_place field.SrcIn = refl
-    from_place field.DstIn = refl
-    from_place field.SportIn = refl
-    from_place field.DportIn = refl
-    from_place field.Proto = refl
-    from_place field.Flags = refl
-    from_place field.IcmpType = refl
-    from_place field.IcmpCode = refl
-    from_place field.SrcOut = refl
-    from_place field.DstOut = refl
-    from_place field.SportOut = refl
-    from_place field.DportOut = refl
-    from_place field.NextHop = refl
-    from_place field.Exit = refl
-
-wildcards_are_one : (a b : Option ℕ) → same_wildcard a b ≡ true → a ≡ b
-wildcards_are_one None None same = refl
-wildcards_are_one None (Some v) same = absurd (false≢true same)
-wildcards_are_one (Some w) None same = absurd (false≢true same)
-wildcards_are_one (Some w) (Some v) same = ap (λ n. Some n) (eqb-true w v same)
-
-same_wildcard-refl : (a : Option ℕ) → same_wildcard a a ≡ true
-same_wildcard-refl None = refl
-same_wildcard-refl (Some w) = eq-eqb w w refl
-
--- two tests are the same where they have the same field, value and wildcard
-pub same_tests : (a b : Test) → (same_test a b ≡ true) ↔ (a ≡ b)
-same_tests a b = (one, same)
-  where
-    one : same_test a b ≡ true → a ≡ b
-    one same =
-        let all = and_parts ((place a.field == place b.field) && (a.value == b.value)) (same_wildcard a.wildcard b.wildcard) same in
-        let front = and_parts (place a.field == place b.field) (a.value == b.value) all.0 in
-        let f = same_field a.field b.field (eqb-true (place a.field) (place b.field) front.0) in
-        let v = eqb-true a.value b.value front.1 in
-        let w = wildcards_are_one a.wildcard b.wildcard all.1 in
-        let test : Field → ℕ → Option ℕ → Test = λ x y z. record { field = x; value = y; wildcard = z } in
-        ap (λ x. test x a.value a.wildcard) f ∙ ap (λ y. test b.field y a.wildcard) v ∙ ap (test b.field b.value) w
-
-    same : a ≡ b → same_test a b ≡ true
-    same is =
-        let itself : same_test a a ≡ true = and_from ((place a.field == place a.field) && (a.value == a.value)) (same_wildcard a.wildcard a.wildcard)
-        (and_from (place a.field == place a.field) (a.value == a.value) (eq-eqb (place a.field) (place a.field) refl) (eq-eqb a.value a.value refl)) (same_wildcard-refl a.wildcard) in
-        subst (λ t. same_test a t ≡ true) is itself

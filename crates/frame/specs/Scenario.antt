@@ -1,22 +1,25 @@
 -- The first scenario of a question: the one of the least signature, and of these the one of the least values.
-use Rattle.std.specs.Prelude.{◌≡◌, ◌⊎◌, ◌==◌, ◌&&◌, not, ℕ, ◌<◌, Bool, true, false, List, [], ◌∷◌, map, Option, Some, None}
+use Rattle.std.specs.Prelude.{◌≡◌, ◌⊎◌, ◌==◌, ◌&&◌, not, ℕ, ◌<◌, Bool, false, List, [], ◌∷◌, map}
 use Rattle.std.specs.List.{filter}
 use Rattle.circuit.specs.Least.{LexLe}
 use Rattle.ios_acl.specs.declared.packet.Packet.{Packet}
 use Rattle.ios_config.specs.declared.request.Field.TheVariants as field
 use Rattle.ios_config.specs.Request.{Request, fields, place}
+use Rattle.frame.specs.declared.question.Pattern.{Pattern}
+use Rattle.frame.specs.declared.question.Pattern.TheVariants as pattern
 use Rattle.frame.specs.declared.question.Test.{Test}
 use Rattle.frame.specs.Question.{Question, passes}
 use Rattle.frame.specs.Solution.{Solves}
 
-abbrev pub same_wildcard : Option ℕ → Option ℕ → Bool
-same_wildcard None None = true
-same_wildcard (Some w) (Some v) = w == v
-same_wildcard None (Some v) = false
-same_wildcard (Some w) None = false
+-- the same value and wildcard, or the same ends
+abbrev pub same_pattern : Pattern → Pattern → Bool
+same_pattern (pattern.Masked value wildcard) (pattern.Masked v w) = (value == v) && (wildcard == w)
+same_pattern (pattern.Masked value wildcard) (pattern.Range low high) = false
+same_pattern (pattern.Range low high) (pattern.Masked value wildcard) = false
+same_pattern (pattern.Range low high) (pattern.Range l h) = (low == l) && (high == h)
 
 abbrev pub same_test : Test → Test → Bool
-same_test a b = (place a.field == place b.field) && (a.value == b.value) && same_wildcard a.wildcard b.wildcard
+same_test a b = (place a.field == place b.field) && same_pattern a.pattern b.pattern
 
 -- the tests that are shown: one that is written twice is shown once, in its first place
 abbrev pub visible : List Test → List Test

@@ -18,7 +18,7 @@ pub fn one_first()
 {}
 
 /// `visible`, read from the front: a test that is shown already is left out, and any other stands behind those before
-/// it. Two tests are the same where they have the same field, value and wildcard, or both no wildcard.
+/// it. Two tests are the same where they have the same field, and the same value and wildcard or the same ends.
 pub fn shown_once()
     ensures same { (a b : Test) → (same_test a b ≡ true) ↔ (a ≡ b) }
     ensures first { visible [] ≡ [] }

@@ -2,7 +2,7 @@
 //!
 //! `first_packet` gives the packet of the first scenario, or says that there is none; `visible` gives the tests that a
 //! scenario is shown with. A question is a circuit over the bits of a packet, and `circuit::least` finds its least bits.
-//! `session` writes scenarios, and `margrave_cli` answers scripts with them.
+//! `session` writes scenarios, and answers scripts with them.
 #![tactic(auto)]
 
 mod bits;
@@ -14,8 +14,5 @@ mod question;
 mod relevance;
 
 pub use laws::{first_or_none, one_first, shown_once};
-pub use question::{Test, first_packet, visible};
+pub use question::{Pattern, Test, first_packet, visible};
 pub use std::alloc::AllocError as NoMemory;
-
-#[cfg(test)]
-mod tests;

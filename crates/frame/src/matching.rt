@@ -1,5 +1,6 @@
-ghost use Rattle.std.specs.Prelude.{IfOk, OnOk, ◌&&◌, nat_le};
-ghost use Rattle.ios_acl.specs.Matching.{matches, matches_code, matches_established, matches_icmp, matches_port, matches_wildcard};
+ghost use Rattle.std.specs.Prelude.{IfOk, OnOk};
+ghost use Rattle.bit_patterns.specs.Patterns.{agrees};
+ghost use Rattle.ios_acl.specs.Matching.{matches, matches_code, matches_established, matches_icmp, matches_port};
 ghost use Rattle.frame.specs.Meaning.{Adds, Narrows};
 ghost use Rattle.frame.specs.Scenario.{request_of};
 
@@ -58,7 +59,7 @@ fn narrow_to_place(
     address: u32,
     wildcard: u32,
 ) -> Result<(), NoMemory>
-    ensures { OnOk result (Narrows circuit.old circuit.new parts.old.items parts.new.items (λ packet. matches_wildcard (request_of packet field) address wildcard)) }
+    ensures { OnOk result (Narrows circuit.old circuit.new parts.old.items parts.new.items (λ packet. agrees (request_of packet field) address wildcard)) }
 {
     if wildcard == u32::MAX {
         return Ok(());
@@ -79,7 +80,8 @@ fn narrow_to_ports(
     match ports {
         Ports::Any => Ok(()),
         Ports::Within(low, high) => {
-            parts.push(within(circuit, field, low, high)?)?;
+            let within = circuit.within(field, u32::from(low), u32::from(high))?;
+            parts.push(within)?;
             Ok(())
         }
         Ports::Not(other) => {
@@ -92,16 +94,6 @@ fn narrow_to_ports(
             Ok(())
         }
     }
-}
-
-/// Adds a node that is true where the field is from `low` to `high`, both included. A single number takes fewer gates.
-fn within(circuit: &mut PacketCircuit, field: Field, low: u16, high: u16) -> Result<Node, NoMemory>
-    ensures { IfOk result (λ node. Adds circuit.old circuit.new node (λ packet. nat_le low (request_of packet field) && nat_le (request_of packet field) high)) }
-{
-    if low == high {
-        return circuit.masked(field, u32::from(low), 0);
-    }
-    circuit.range(field, low, high)
 }
 
 /// Adds the parts that are true where the type and the code are the wanted ones.

@@ -1,7 +1,7 @@
-ghost use Rattle.std.specs.Prelude.{◌≡◌, ◌<◌, ◌≤◌, ◌&&◌, nat_le, not, Bool, true, List, length, map, IfOk, IfSome, IfNone};
+ghost use Rattle.std.specs.Prelude.{◌≡◌, ◌<◌, ◌≤◌, not, Bool, true, List, length, map, IfOk, IfSome, IfNone};
 ghost use Rattle.std.specs.List.{list_any, list_all};
 ghost use Rattle.ios_acl.specs.declared.packet.Packet.{Packet};
-ghost use Rattle.circuit.specs.Number.{agrees};
+ghost use Rattle.bit_patterns.specs.Patterns.{agrees, within};
 ghost use Rattle.circuit.specs.Value.{AreNodes, Extends, value as node_value};
 ghost use Rattle.frame.specs.Meaning.{Adds, Means, IsLeastPacket, HoldsFor};
 ghost use Rattle.frame.specs.Scenario.{request_of};
@@ -58,9 +58,19 @@ impl PacketCircuit {
             .masked(bits, u128::from(value), u128::from(wildcard))
     }
 
-    /// Adds a node that is true where the field is from `low` to `high`, both included.
-    pub(crate) fn range(&mut self, field: Field, low: u16, high: u16) -> Result<Node, NoMemory>
-        ensures { IfOk result (λ node. Adds self.old self.new node (λ packet. nat_le low (request_of packet field) && nat_le (request_of packet field) high)) }
+    /// Adds a node that is true where the field is from `low` to `high`, both included. A single number takes fewer
+    /// gates.
+    pub(crate) fn within(&mut self, field: Field, low: u32, high: u32) -> Result<Node, NoMemory>
+        ensures { IfOk result (λ node. Adds self.old self.new node (λ packet. within low high (request_of packet field))) }
+    {
+        if low == high {
+            return self.masked(field, low, 0);
+        }
+        self.range(field, low, high)
+    }
+
+    fn range(&mut self, field: Field, low: u32, high: u32) -> Result<Node, NoMemory>
+        ensures { IfOk result (λ node. Adds self.old self.new node (λ packet. within low high (request_of packet field))) }
     {
         let bits = field_bits(self.bits.as_slice(), field);
         self.circuit.range(bits, u128::from(low), u128::from(high))

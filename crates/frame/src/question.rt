@@ -3,7 +3,7 @@ ghost use Rattle.std.specs.List.{list_all, list_any, AllByRecursion};
 ghost use Rattle.ios_acl.specs.declared.packet.Packet.{Packet};
 ghost use Rattle.ios_config.specs.Request.{Request, place};
 ghost use Rattle.frame.specs.Meaning.{Adds, Means};
-ghost use Rattle.frame.specs.Question.{IsOfPacket, asked, passes};
+ghost use Rattle.frame.specs.Question.{IsOfPacket, accepts, asked, passes};
 ghost use Rattle.frame.specs.Solution.{Solves};
 ghost use Rattle.frame.specs.Scenario.{IsFirst, request_of, same_test};
 ghost use Rattle.frame.specs.Scenario as specs;
@@ -12,17 +12,43 @@ use crate::NoMemory;
 use crate::decision::decided;
 use crate::packet_circuit::PacketCircuit;
 use crate::relevance::relevant;
+use bit_patterns::agrees;
 use circuit::Node;
 use ios_acl::{Entry, Packet, Verdict};
 use ios_config::Field;
 use std::alloc::Global;
 
-/// A test of a field: its number is the value, or differs from it only in bits that are 1 in the wildcard.
+/// What is asked of a number: one of two tests.
+#[derive(Clone, Copy, Debug, PartialEq, Eq)]
+pub enum Pattern {
+    /// The number agrees with the value on each bit that is 0 in the wildcard.
+    Masked { value: u32, wildcard: u32 },
+    /// The number is from `low` to `high`, both included: where they are the same it is this one number, and where
+    /// `high` is below `low` it is none.
+    Range { low: u32, high: u32 },
+}
+
+impl Pattern {
+    /// Whether the number is as the pattern asks.
+    pub fn accepts(self, number: u32) -> bool
+        ensures { result ≡ accepts self number }
+    {
+        match self {
+            Pattern::Masked { value, wildcard } => agrees(
+                u128::from(number),
+                u128::from(value),
+                u128::from(wildcard),
+            ),
+            Pattern::Range { low, high } => low <= number && number <= high,
+        }
+    }
+}
+
+/// A test of a field: its number is as the pattern asks.
 #[derive(Clone, Copy, Debug, PartialEq, Eq)]
 pub struct Test {
     pub field: Field,
-    pub value: u32,
-    pub wildcard: Option<u32>,
+    pub pattern: Pattern,
 }
 
 /// The tests that are shown: one that is written twice is shown once, in its first place.
@@ -53,7 +79,7 @@ fn is_shown(shown: &[Test], test: &Test) -> bool
 fn is_same(a: &Test, b: &Test) -> bool
     ensures { result ≡ same_test a.now b.now }
 {
-    a.field == b.field && a.value == b.value && a.wildcard == b.wildcard
+    a.field == b.field && a.pattern == b.pattern
 }
 
 /// The packet of the first scenario: of the requests that the entries decide so and that pass the tests, the one of the
@@ -94,8 +120,8 @@ fn tested(circuit: &mut PacketCircuit, other: Node, tests: &[Test]) -> Result<No
 fn passed(circuit: &mut PacketCircuit, test: &Test) -> Result<Node, NoMemory>
     ensures { IfOk result (λ node. Adds circuit.old circuit.new node (λ packet. passes (request_of packet) test.now)) }
 {
-    match test.wildcard {
-        None => circuit.masked(test.field, test.value, 0),
-        Some(wildcard) => circuit.masked(test.field, test.value, wildcard),
+    match test.pattern {
+        Pattern::Masked { value, wildcard } => circuit.masked(test.field, value, wildcard),
+        Pattern::Range { low, high } => circuit.within(test.field, low, high),
     }
 }

@@ -1,13 +1,15 @@
-ghost use Rattle.std.specs.Prelude.{◌≡◌, ℕ, Option, true, false, IfOk};
+ghost use Rattle.std.specs.Prelude.{◌≡◌, ℕ, true, false, IfOk};
 ghost use Rattle.std.specs.List.{list_all};
+ghost use Rattle.bit_patterns.specs.Patterns.{agrees as agrees_lem, within};
 ghost use Rattle.ios_acl.specs.declared.packet.Packet.{Packet as PacketOf};
 ghost use Rattle.ios_acl.specs.Decision.{decision};
-ghost use Rattle.ios_acl.specs.Matching.{matches, matches_code, matches_established, matches_icmp, matches_port, matches_wildcard};
-ghost use Rattle.frame.specs.Question.{agrees, passes};
+ghost use Rattle.ios_acl.specs.Matching.{matches, matches_code, matches_established, matches_icmp, matches_port};
+ghost use Rattle.frame.specs.Question.{accepts, passes};
 ghost use Rattle.frame.specs.Scenario.{request_of};
 
 use crate::NoMemory;
-use crate::question::Test;
+use crate::question::{Pattern, Test};
+use bit_patterns::agrees;
 use ios_acl::{Entry, Ports};
 use ios_config::Field;
 use std::alloc::Global;
@@ -47,58 +49,87 @@ fn misses(entry: &Entry, test: &Test) -> bool
     ensures { result ≡ true → (packet : PacketOf) → passes (request_of packet) test.now ≡ true → matches entry.now packet ≡ false }
 {
     match test.field {
-        Field::SrcIn => are_apart(entry.src, test.value, test.wildcard),
-        Field::DstIn => are_apart(entry.dst, test.value, test.wildcard),
-        Field::SportIn => is_other_port(entry.sport, test.value, test.wildcard),
-        Field::DportIn => is_other_port(entry.dport, test.value, test.wildcard),
-        Field::Proto => is_other_code(entry.proto, test.value, test.wildcard),
-        Field::Flags => lacks_flags(entry.established, test.value, test.wildcard),
-        Field::IcmpType => is_other_type(entry.icmp, test.value, test.wildcard),
+        Field::SrcIn => are_apart(entry.src, test.pattern),
+        Field::DstIn => are_apart(entry.dst, test.pattern),
+        Field::SportIn => is_other_port(entry.sport, test.pattern),
+        Field::DportIn => is_other_port(entry.dport, test.pattern),
+        Field::Proto => is_other_code(entry.proto, test.pattern),
+        Field::Flags => lacks_flags(entry.established, test.pattern),
+        Field::IcmpType => is_other_type(entry.icmp, test.pattern),
         _ => false,
+    }
+}
+
+/// Whether no number is as the pattern asks and agrees with the place.
+fn are_apart(place: (u32, u32), pattern: Pattern) -> bool
+    ensures { result ≡ true → (x : ℕ) → accepts pattern x ≡ true → agrees_lem x place.0 place.1 ≡ false }
+{
+    match pattern {
+        Pattern::Masked { value, wildcard } => differ(place, value, wildcard),
+        Pattern::Range { low, high } if low == high => differ(place, low, 0),
+        Pattern::Range { low, high } => is_outside(place, low, high),
     }
 }
 
 /// Whether no number agrees with both values, each on the bits that are 0 in its wildcard.
-fn are_apart(place: (u32, u32), value: u32, wildcard: Option<u32>) -> bool
-    ensures { result ≡ true → (x : ℕ) → agrees x value wildcard ≡ true → matches_wildcard x place.0 place.1 ≡ false }
+fn differ(place: (u32, u32), value: u32, wildcard: u32) -> bool
+    ensures { result ≡ true → (x : ℕ) → agrees_lem x value wildcard ≡ true → agrees_lem x place.0 place.1 ≡ false }
 {
-    let ignored = place.1 | wildcard.unwrap_or(0);
-    (place.0 ^ value) | ignored != ignored
+    let ignored = place.1 | wildcard;
+    !agrees(u128::from(place.0), u128::from(value), u128::from(ignored))
 }
 
-/// Whether a test for one number asks for a port that is none of these.
-fn is_other_port(ports: Ports, value: u32, wildcard: Option<u32>) -> bool
-    ensures { result ≡ true → (x : ℕ) → agrees x value wildcard ≡ true → matches_port x ports ≡ false }
+/// Whether the least and the greatest number that agree with the place are both on one side of the range.
+fn is_outside(place: (u32, u32), low: u32, high: u32) -> bool
+    ensures { result ≡ true → (x : ℕ) → within low high x ≡ true → agrees_lem x place.0 place.1 ≡ false }
 {
-    match (wildcard, u16::try_from(value)) {
-        (None, Ok(port)) => !ports.has(port),
+    let greatest = place.0 | place.1;
+    let least = greatest - place.1;
+    greatest < low || high < least
+}
+
+/// Whether a range is asked for that has none of these ports. A wildcard is not looked into.
+fn is_other_port(ports: Ports, pattern: Pattern) -> bool
+    ensures { result ≡ true → (x : ℕ) → accepts pattern x ≡ true → matches_port x ports ≡ false }
+{
+    match (ports, pattern) {
+        (Ports::Within(first, last), Pattern::Range { low, high }) => {
+            u32::from(last) < low || high < u32::from(first)
+        }
+        (Ports::Not(other), Pattern::Range { low, high }) => {
+            low == u32::from(other) && high == u32::from(other)
+        }
+        (Ports::Nothing, _) => true,
         _ => false,
     }
 }
 
-/// Whether a test for one number asks for another one than is wanted.
-fn is_other_code(wanted: Option<u8>, value: u32, wildcard: Option<u32>) -> bool
-    ensures { result ≡ true → (x : ℕ) → agrees x value wildcard ≡ true → matches_code x wanted ≡ false }
+/// Whether a number is wanted that is not as the pattern asks.
+fn is_other_code(wanted: Option<u8>, pattern: Pattern) -> bool
+    ensures { result ≡ true → (x : ℕ) → accepts pattern x ≡ true → matches_code x wanted ≡ false }
 {
-    match (wanted, wildcard) {
-        (Some(wanted), None) => u32::from(wanted) != value,
-        _ => false,
+    match wanted {
+        None => false,
+        Some(wanted) => !pattern.accepts(u32::from(wanted)),
     }
 }
 
-/// Whether a test for one number asks for another ICMP type than is wanted.
-fn is_other_type(wanted: Option<(u8, Option<u8>)>, value: u32, wildcard: Option<u32>) -> bool
-    ensures { result ≡ true → (x code : ℕ) → agrees x value wildcard ≡ true → matches_icmp x code wanted ≡ false }
+/// Whether an ICMP type is wanted that is not as the pattern asks.
+fn is_other_type(wanted: Option<(u8, Option<u8>)>, pattern: Pattern) -> bool
+    ensures { result ≡ true → (x code : ℕ) → accepts pattern x ≡ true → matches_icmp x code wanted ≡ false }
 {
-    match (wanted, wildcard) {
-        (Some((kind, _)), None) => u32::from(kind) != value,
-        _ => false,
+    match wanted {
+        None => false,
+        Some((kind, _)) => !pattern.accepts(u32::from(kind)),
     }
 }
 
-/// Whether a test for one number asks for flags without ACK, 16, and RST, 4, of which one is wanted.
-fn lacks_flags(wanted: bool, value: u32, wildcard: Option<u32>) -> bool
-    ensures { result ≡ true → (x : ℕ) → agrees x value wildcard ≡ true → matches_established x wanted ≡ false }
+/// Whether one of ACK, 16, and RST, 4, is wanted, and a single number is asked for that has neither.
+fn lacks_flags(wanted: bool, pattern: Pattern) -> bool
+    ensures { result ≡ true → (x : ℕ) → accepts pattern x ≡ true → matches_established x wanted ≡ false }
 {
-    wanted && wildcard.is_none() && value & 20 == 0
+    match pattern {
+        Pattern::Masked { .. } => false,
+        Pattern::Range { low, high } => wanted && low == high && low & 20 == 0,
+    }
 }

@@ -1,45 +1,10 @@
 -- Tests of numbers, bit by bit.
-use Rattle.std.proofs.Common.{◌≡◌, ◌↔◌, ◌⊎◌, inl, inr, ℕ, ◌+◌, ◌%◌, ◌<◌, ◌≤◌, ◌==◌, min, max, suc, zero, true, false, not, IsTrue, bit_and, bit_or, bit_xor, refl, sym, ap, ◌∙◌, arith}
+use Rattle.std.proofs.Common.{◌≡◌, ◌↔◌, ◌⊎◌, inl, inr, ℕ, ◌<◌, ◌≤◌, ◌==◌, min, suc, zero, true, false, not, IsTrue, bit_and, refl, sym, ap, ◌∙◌, arith}
 use Rattle.std.specs.Int.{bit_at}
 use Rattle.std.proofs.lemmas.Bool.{cases_lt, false_from_ne_true, not_from_false}
 use Rattle.std.proofs.lemmas.Bool.Decides.{Decides-eqb}
-use Rattle.std.proofs.lemmas.Nat.Bits.{bit_at_and, bit_at_or, bit_at_xor, bit_at-lt, bit_at-zero, bit_at_above, same_from_bits}
-use Rattle.ios_acl.specs.Matching.{matches_wildcard, matches_established}
-
--- a bit that is masked by nothing is as it was
-same_bit : (b c w : ℕ) → b < 2 → c < 2 → w ≡ 0 → max ((b + c) % 2) w ≡ w → b ≡ c
-same_bit b c w b_bit c_bit none is = omega arith
-
--- where two bits are the same or a wildcard stands over them, their difference adds nothing to it
-no_more : (b c w : ℕ) → b < 2 → w < 2 → (w ≡ 0 → b ≡ c) → max ((b + c) % 2) w ≡ w
-no_more b c zero b_bit w_bit same = let is = same refl in omega arith
-no_more b c (suc w) b_bit w_bit same = omega arith
-
-bit_of_wildcard : (x address wildcard place : ℕ) → bit_at (bit_or (bit_xor x address) wildcard) place ≡ max ((bit_at x place + bit_at address place) % 2) (bit_at wildcard place)
-bit_of_wildcard x address wildcard place =
-    bit_at_or (bit_xor x address) wildcard place ∙ ap (λ n. max n (bit_at wildcard place)) (bit_at_xor x address place)
-
--- a wildcard leaves out the bits that are 1 in it
-pub wildcard_by_bits : (x address wildcard : ℕ)
-    → IsTrue (matches_wildcard x address wildcard) ↔ ((place : ℕ) → bit_at wildcard place ≡ 0 → bit_at x place ≡ bit_at address place)
-wildcard_by_bits x address wildcard = (forth, back)
-  where
-    tested : ℕ
-    tested = bit_or (bit_xor x address) wildcard
-
-    forth : IsTrue (matches_wildcard x address wildcard) → (place : ℕ) → bit_at wildcard place ≡ 0 → bit_at x place ≡ bit_at address place
-    forth matches place none =
-        let same : tested ≡ wildcard = (Decides-eqb tested wildcard).0 matches in
-        let bits = sym (bit_of_wildcard x address wildcard place) ∙ ap (λ n. bit_at n place) same in
-        same_bit (bit_at x place) (bit_at address place) (bit_at wildcard place) (bit_at-lt x place) (bit_at-lt address place) none bits
-
-    back : ((place : ℕ) → bit_at wildcard place ≡ 0 → bit_at x place ≡ bit_at address place) → IsTrue (matches_wildcard x address wildcard)
-    back same = (Decides-eqb tested wildcard).1 (same_from_bits tested wildcard unchanged)
-      where
-        unchanged : (place : ℕ) → bit_at tested place ≡ bit_at wildcard place
-        unchanged place =
-            bit_of_wildcard x address wildcard place
-            ∙ no_more (bit_at x place) (bit_at address place) (bit_at wildcard place) (bit_at-lt x place) (bit_at-lt wildcard place) (same place)
+use Rattle.std.proofs.lemmas.Nat.Bits.{bit_at_and, bit_at-lt, bit_at-zero, bit_at_above, same_from_bits}
+use Rattle.ios_acl.specs.Matching.{matches_established}
 
 -- 20 has two bits
 bit_of_twenty : (place : ℕ) → (place ≡ 2) ⊎ ((place ≡ 4) ⊎ (bit_at 20 place ≡ 0))

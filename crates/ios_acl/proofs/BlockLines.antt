@@ -13,15 +13,14 @@ use Rattle.ios_lex.specs.Banner.{Opens}
 use Rattle.ios_lex.specs.Lines.{Reading, AreLines, IsPart, is_indented, outside}
 use Rattle.ios_lex.specs.RawLines.{raw_lines, without_return}
 use Rattle.ios_lex.specs.Words.{is_gap, is_some_text, words_of}
+use Rattle.ios_lex.specs.Phrases.{Words}
 use Rattle.ios_lex.proofs.LineWords.{kept}
 use Rattle.ios_lex.proofs.OpeningWords.{opens_unindented, opens_words}
 use Rattle.ios_lex.proofs.RawTexts.{ended_line}
 use Rattle.ios_acl.specs.declared.entry.Entry.{Entry}
-use Rattle.ios_acl.specs.Phrases.{Words}
 use Rattle.ios_acl.specs.List.{IsWritable}
 use Rattle.ios_acl.specs.Block.{kind_word, IsWithinBlock}
-use Rattle.ios_acl.specs.Spelling.{behind_blanks, sentence_words, entry_words, entry_line, opening_line}
-use Rattle.ios_acl.proofs.BlockTexts.{entry_lines}
+use Rattle.ios_acl.specs.Spelling.{behind_blanks, sentence_words, entry_words, entry_line, opening_line, entry_lines}
 use Rattle.ios_acl.proofs.PlainWords.{is_printed, is_plain, plain_some, plain_printed}
 use Rattle.ios_acl.proofs.WrittenEntries.{entry_plain}
 

@@ -1,10 +1,10 @@
 -- Words behind blanks.
 use Rattle.std.proofs.Common.{◌≡◌, ℕ, ◌<◌, ◌+◌, Bool, List, [], ◌∷◌, ◌++◌, take, get_or, length, codes, refl, ap, ◌∙◌, sym, append_assoc}
 use Rattle.std.proofs.lemmas.List.{append-nil, take_more}
+use Rattle.ios_lex.specs.Phrases.{Words}
 use Rattle.ios_acl.specs.declared.entry.Entry.{Entry}
-use Rattle.ios_acl.specs.Phrases.{Words}
 use Rattle.ios_acl.specs.Block.{kind_word}
-use Rattle.ios_acl.specs.Spelling.{behind_blanks, opening_line, entry_line, entry_words}
+use Rattle.ios_acl.specs.Spelling.{behind_blanks, opening_line, entry_line, entry_lines, entry_words}
 
 pub behind_blanks-append : (words more : Words) → behind_blanks (words ++ more) ≡ behind_blanks words ++ behind_blanks more
 behind_blanks-append [] more = refl
@@ -28,11 +28,6 @@ pub written_entry : (old text new : List ℕ) (extended : Bool) (entry : Entry) 
 unfolding entry_line
 written_entry old text new extended entry words ends =
     ends ∙ ap (λ front. front ++ 10 ∷ []) words ∙ append_assoc old (behind_blanks (entry_words extended entry)) (10 ∷ [])
-
--- the lines of the entries, one after another
-abbrev pub entry_lines : Bool → List Entry → List ℕ
-entry_lines extended [] = []
-entry_lines extended (entry ∷ entries) = entry_line extended entry ++ entry_lines extended entries
 
 entry_lines-push : (extended : Bool) (entries : List Entry) (entry : Entry) → entry_lines extended (entries ++ entry ∷ []) ≡ entry_lines extended entries ++ entry_line extended entry
 entry_lines-push extended [] entry = append-nil (entry_line extended entry)

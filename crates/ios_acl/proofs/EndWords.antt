@@ -2,21 +2,22 @@
 use Rattle.std.proofs.Common.{◌≡◌, ◌⊎◌, inl, inr, ◌↔◌, ℕ, ◌<◌, Bool, true, false, List, [], ◌∷◌, length, Option, Some, None, refl, sym, ◌∙◌, codes}
 use Rattle.std.specs.Map.{lookup}
 use Rattle.std.specs.Str.{bytes_eq}
-use Rattle.ios_lex.specs.Names.{icmp_messages}
+use Rattle.ios_lex.specs.Names.{icmp_messages, IsMessageName}
+use Rattle.ios_lex.specs.declared.stop.Stop.{Stop}
+use Rattle.ios_lex.specs.Phrases.{Words, Then}
+use Rattle.ios_lex.specs.Following.{Begins, IsAddressWord, IsNumberWord}
+use Rattle.ios_lex.specs.Refusal.{is_among, begins_with_digit}
+use Rattle.ios_lex.specs.Stops.{expected_of, BeginsWith, LacksFirst}
 use Rattle.ios_lex.proofs.NameTables.{name_is_found}
 use Rattle.ios_lex.proofs.Spellings.{message_names}
+use Rattle.ios_lex.proofs.Stopping.{stop_behind}
+use Rattle.ios_lex.proofs.WordForms.{numeral_digit, address_digit}
+use Rattle.ios_lex.proofs.Choices.{IsChoice, stop_behind_part, stop_in_part, stop_without_part}
 use Rattle.ios_acl.specs.declared.entry.Ports.{Ports}
 use Rattle.ios_acl.specs.declared.entry.Ports.TheVariants as ports
-use Rattle.ios_acl.specs.declared.stop.Stop.{Stop}
-use Rattle.ios_acl.specs.Phrases.{Words, Then}
 use Rattle.ios_acl.specs.Grammar.{ArePorts, ArePortsOf, AreMessagesOf, IsEstablishedOf, IsLog, with_ports}
-use Rattle.ios_acl.specs.Following.{Begins, IsAddressWord, IsNumberWord, IsMessageName}
-use Rattle.ios_acl.specs.Refusal.{is_among, begins_with_digit}
-use Rattle.ios_acl.specs.Stops.{expected_of, IsStop, BeginsWith, LacksFirst}
+use Rattle.ios_acl.specs.Stops.{IsStop}
 use Rattle.ios_acl.specs.Parts.{SomePorts, SomeLog, IsMessageEnd, SomeMessageEnd, IsConnectionEnd, SomeConnectionEnd, IsEnd, SomeEnd, port_words}
-use Rattle.ios_acl.proofs.Stopping.{stop_behind}
-use Rattle.ios_acl.proofs.WordForms.{numeral_digit, address_digit}
-use Rattle.ios_acl.proofs.Choices.{IsChoice, stop_behind_part, stop_in_part, stop_without_part}
 use Rattle.ios_acl.proofs.LastWords.{behind_none, behind_one}
 use Rattle.ios_acl.proofs.PortWords.{IsTestWord, test_word, lacks_test, no_ports_nowhere, more_ports}
 use Rattle.ios_acl.proofs.LogWords.{log_text}

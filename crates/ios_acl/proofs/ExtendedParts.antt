@@ -1,19 +1,19 @@
 -- The parts of an entry of an extended list, one behind the other, and what may stand behind each.
 use Rattle.std.proofs.Common.{◌≡◌, ◌⊎◌, inl, inr, ◌↔◌, ℕ, Bool, true, false, List, [], ◌∷◌, ◌++◌, Option, None, codes, refl, sym}
+use Rattle.ios_lex.specs.Phrases.{Words, Then}
+use Rattle.ios_lex.specs.Refusal.{begins_with_digit, is_among}
+use Rattle.ios_lex.proofs.Chains.{cut_behind, then_behind, then_map}
+use Rattle.ios_lex.proofs.Stopping.{IsOptionalPart}
+use Rattle.ios_lex.proofs.WordForms.{address_digit}
 use Rattle.ios_acl.specs.declared.entry.Entry.{Entry}
 use Rattle.ios_acl.specs.declared.entry.Ports.{Ports}
 use Rattle.ios_acl.specs.declared.entry.Ports.TheVariants as ports
 use Rattle.ios_acl.specs.declared.entry.Verdict.TheVariants as verdict
-use Rattle.ios_acl.specs.Phrases.{Words, Then}
-use Rattle.ios_acl.specs.Refusal.{begins_with_digit, is_among}
 use Rattle.ios_acl.specs.Grammar.{IsPlace, IsProto, ArePorts, ArePortsOf, AreMessagesOf, IsEstablishedOf, IsLog, IsBehindProto}
 use Rattle.ios_acl.specs.Parts.{port_words, SomeEnd, SomeExtended, SomePlace, SomePortsOf}
-use Rattle.ios_acl.proofs.Chains.{cut_behind, then_behind, then_map}
 use Rattle.ios_acl.proofs.OnePart.{proto_is_one, ports_begin, ports_word, ports_word_among, ports_word_letter}
 use Rattle.ios_acl.proofs.PortWords.{more_ports}
 use Rattle.ios_acl.proofs.PrefixFree.{place_prefix_free, ports_of_prefix_free}
-use Rattle.ios_acl.proofs.Stopping.{IsOptionalPart}
-use Rattle.ios_acl.proofs.WordForms.{address_digit}
 
 -- what may stand behind the ports of the source, behind the source, and behind the protocol
 abbrev pub BehindPorts : Option ℕ → Bool → Words → Type 0

@@ -3,24 +3,25 @@ use Rattle.std.proofs.Common.{◌≡◌, ◌⊎◌, inl, inr, ◌↔◌, ℕ, �
 use Rattle.std.specs.List.{list_all}
 use Rattle.std.proofs.lemmas.List.Elements.{All-contains}
 use Rattle.std.proofs.lemmas.List.Sums.{AllPass-from_list_all}
-use Rattle.ios_lex.specs.Names.{icmp_messages}
+use Rattle.ios_lex.specs.Names.{icmp_messages, IsMessageName}
+use Rattle.ios_lex.specs.declared.stop.Stop.{Stop}
+use Rattle.ios_lex.specs.Phrases.{Words}
+use Rattle.ios_lex.specs.Following.{Begins, IsAddressWord, IsNumberWord}
+use Rattle.ios_lex.specs.Refusal.{is_among}
+use Rattle.ios_lex.specs.Stops.{BeginsWith, expected_of, LacksFirst}
+use Rattle.ios_lex.proofs.Chains.{then_first}
+use Rattle.ios_lex.proofs.Stopping.{IsFirstPart, stop_behind, stop_within, stop_within_optional, stop_without}
+use Rattle.ios_lex.proofs.WordForms.{address_digit, numeral_digit}
 use Rattle.ios_acl.specs.declared.entry.Entry.{Entry}
 use Rattle.ios_acl.specs.declared.entry.Ports.{Ports}
 use Rattle.ios_acl.specs.declared.entry.Ports.TheVariants as ports
-use Rattle.ios_acl.specs.declared.stop.Stop.{Stop}
-use Rattle.ios_acl.specs.Phrases.{Words}
-use Rattle.ios_acl.specs.Following.{Begins, IsAddressWord, IsNumberWord, IsMessageName}
-use Rattle.ios_acl.specs.Refusal.{is_among}
 use Rattle.ios_acl.specs.Grammar.{IsPlace, IsProto, ArePorts, ArePortsOf, IsExtended, with_ports}
-use Rattle.ios_acl.specs.Stops.{BeginsWith, expected_of, IsStop, LacksFirst}
+use Rattle.ios_acl.specs.Stops.{IsStop}
 use Rattle.ios_acl.specs.Parts.{IsEnd, port_words, SomeEnd, SomeExtended, SomePlace, SomePorts, SomePortsOf, SomeProto}
-use Rattle.ios_acl.proofs.Chains.{then_first}
 use Rattle.ios_acl.proofs.ExtendedParts.{BehindPorts, BehindProto, BehindSource, behind_destination, behind_ports, behind_proto, behind_source, optional_ports, ports_loosened, some_behind_proto, some_behind_source, some_end, test_begins}
 use Rattle.ios_acl.proofs.OneEnd.{tcp_is_one}
 use Rattle.ios_acl.proofs.OnePart.{ports_begin}
 use Rattle.ios_acl.proofs.PrefixFree.{place_prefix_free, ports_of_prefix_free, proto_prefix_free}
-use Rattle.ios_acl.proofs.Stopping.{IsFirstPart, stop_behind, stop_within, stop_within_optional, stop_without}
-use Rattle.ios_acl.proofs.WordForms.{address_digit, numeral_digit}
 
 -- the parts with which a line begins
 first_proto : (b : Bool) → IsFirstPart (SomeProto b) (SomeExtended b)

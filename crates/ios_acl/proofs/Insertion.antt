@@ -3,8 +3,8 @@ use Rattle.std.proofs.Common.{◌≡◌, ℕ, ◌<◌, ◌≤◌, Bool, true, fa
 use Rattle.std.specs.List.{insert, AllByRecursion}
 use Rattle.std.proofs.lemmas.List.Edits.{length-insert}
 use Rattle.std.proofs.lemmas.List.Elements.{All-append, All-cons, All-take, All-drop, All-from_recursion, recursion_from_All}
+use Rattle.ios_lex.specs.Phrases.{Words}
 use Rattle.ios_acl.specs.declared.entry.Entry.{Entry}
-use Rattle.ios_acl.specs.Phrases.{Words}
 use Rattle.ios_acl.specs.Grammar.{IsEntry}
 use Rattle.ios_acl.specs.List.{AccessList, IsAccessList, IsWritable, has_number, with_entry, greatest_sequence, most_entries}
 use Rattle.ios_acl.specs.Adding.{with_number}

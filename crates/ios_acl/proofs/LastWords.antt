@@ -2,17 +2,19 @@
 use Rattle.std.proofs.Common.{◌≡◌, inl, inr, ◌↔◌, ℕ, Bool, true, false, List, [], ◌∷◌, ◌++◌, length, Option, Some, None, refl, sym, Contains, codes, lit<}
 use Rattle.ios_lex.specs.Address.{IsAddress}
 use Rattle.ios_lex.specs.Decimal.{IsNumber}
-use Rattle.ios_lex.specs.Names.{icmp_messages, IsMessage}
-use Rattle.ios_acl.specs.declared.stop.Due.TheVariants as due
-use Rattle.ios_acl.specs.declared.stop.Stop.{Stop}
-use Rattle.ios_acl.specs.Phrases.{Words}
+use Rattle.ios_lex.specs.Names.{icmp_messages, IsMessage, IsMessageName}
+use Rattle.ios_lex.specs.declared.stop.Due.TheVariants as due
+use Rattle.ios_lex.specs.declared.stop.Stop.{Stop}
+use Rattle.ios_lex.specs.Phrases.{Words}
+use Rattle.ios_lex.specs.Following.{Begins, MayFollow, IsAddressWord}
+use Rattle.ios_lex.specs.Stops.{expecting}
+use Rattle.ios_lex.specs.Stops as stopping
+use Rattle.ios_lex.proofs.Stopping.{stop_first, stop_behind}
+use Rattle.ios_lex.proofs.WordForms.{zero_number, number_word, numeral_digit, no_number_address, no_address_message, message_name_form}
+use Rattle.ios_lex.proofs.FirstStops.{stop_ahead}
 use Rattle.ios_acl.specs.Grammar.{AreMessages, AreMessagesOf, IsLog}
-use Rattle.ios_acl.specs.Following.{Begins, MayFollow, IsExpected, IsAddressWord, IsMessageName}
-use Rattle.ios_acl.specs.Stops.{expecting, StopsBefore, IsStop}
+use Rattle.ios_acl.specs.Stops.{IsExpected, StopsBefore, IsStop}
 use Rattle.ios_acl.specs.Parts.{SomeLog, IsCodeEnd, SomeCodeEnd, IsMessageEnd, SomeMessageEnd, is_log_word, is_log_next}
-use Rattle.ios_acl.proofs.Stopping.{stop_first, stop_behind}
-use Rattle.ios_acl.proofs.WordForms.{zero_number, number_word, numeral_digit, no_number_address, no_address_message, message_name_form}
-use Rattle.ios_acl.proofs.FirstStops.{stop_ahead}
 use Rattle.ios_acl.proofs.LogWords.{log_test, log_read, no_log_address, no_log_number, no_log_message}
 
 -- words before the last ones: none, or one
@@ -29,7 +31,7 @@ stop_at_log : (Line : Bool → Words → Type 0) (words : Words) (stop : Stop) �
 stop_at_log Line [] stop next same stops = absurd (no_stop stops.front stops.back stops.whole stops.stops)
   where
     no_stop : (front back : Words) → [] ≡ front ++ back → StopsBefore (SomeLog true) front stop.due back → ⊥
-    no_stop [] [] whole (StopsBefore.short begun short) = short (IsLog.none refl)
+    no_stop [] [] whole (stopping.short begun short) = short (IsLog.none refl)
     no_stop [] (word ∷ more) whole before = cc whole
     no_stop (word ∷ more) back whole before = cc whole
 stop_at_log Line (word ∷ rest) stop next same stops =
@@ -82,7 +84,7 @@ code_expected : IsExpected (SomeCodeEnd false) [] (expecting false true false tr
 code_expected = record {
   address = (λ e. absurd (cc e), λ m. absurd (no_address m));
   number = (λ e. (codes "0", number_word 255 (codes "0") 0 (zero_number 255), ([], (Some 0, one_code (codes "0") 0 [] (zero_number 255) (IsLog.none refl)))), λ m. refl);
-  message = (λ e. absurd (cc e), λ m. absurd (no_message m.1));
+  name = (λ e. absurd (cc e), λ m. absurd (no_message m.1));
   whole = (λ e. (None, no_code [] (IsLog.none refl)), λ m. refl);
 }
   where
@@ -105,7 +107,7 @@ code_expected = record {
 
 -- a stop before a word that is no code and not on logging
 pub stop_no_code : (words : Words) (stop : Stop) (word : List ℕ) (rest : Words) → words ≡ word ∷ rest → is_log_next words ≡ false → ((n : ℕ) → IsNumber 255 word n → ⊥)
-    → stop.due ≡ due.Code → stop.left ≡ length words → IsStop SomeCodeEnd words stop
+    → stop.due ≡ due.NumberOrEnd → stop.left ≡ length words → IsStop SomeCodeEnd words stop
 stop_no_code words stop word rest whole next none is_due left = stop_first SomeCodeEnd words stop left (rw (is_due, whole) at_word)
   where
     other : is_log_word true word ≡ false
@@ -118,12 +120,12 @@ stop_no_code words stop word rest whole next none is_due left = stop_first SomeC
     stops : (b : Bool) → Begins (SomeCodeEnd b) (word ∷ []) → ⊥
     stops b m = by_case m.0 (code_first m.1.0 word m.0 m.1.1)
 
-    at_word : StopsBefore SomeCodeEnd [] due.Code (word ∷ rest)
-    at_word = StopsBefore.word word rest record {
+    at_word : StopsBefore SomeCodeEnd [] due.NumberOrEnd (word ∷ rest)
+    at_word = stopping.word word rest record {
       begins = ([], (None, no_code [] (IsLog.none refl)));
       stops = stops false;
       expected = code_expected;
-      backward = (λ e. absurd (cc e), λ m. absurd (stops true m));
+      lax = (λ e. absurd (cc e), λ m. absurd (stops true m));
     }
 
 -- an ICMP message
@@ -228,7 +230,7 @@ message_expected : IsExpected (SomeMessageEnd false) [] (expecting false true tr
 message_expected = record {
   address = (λ e. absurd (cc e), λ m. absurd (no_address m));
   number = (λ e. (codes "0", number_word 255 (codes "0") 0 (zero_number 255), ([], (Some (0, None), one_message (codes "0") (0, None) [] (inr (zero_number 255, refl)) (IsLog.none refl)))), λ m. refl);
-  message = (λ e. (nothing, (codes "echo-reply", ((0, None), echo_reply), ([], (Some (0, None), one_message (codes "echo-reply") (0, None) [] (inl echo_reply) (IsLog.none refl))))), λ m. refl);
+  name = (λ e. (nothing, (codes "echo-reply", ((0, None), echo_reply), ([], (Some (0, None), one_message (codes "echo-reply") (0, None) [] (inl echo_reply) (IsLog.none refl))))), λ m. refl);
   whole = (λ e. nothing, λ m. refl);
 }
   where
@@ -245,7 +247,7 @@ message_expected = record {
 
 -- a stop before a word that is no message and not on logging
 pub stop_no_message : (words : Words) (stop : Stop) (word : List ℕ) (rest : Words) → words ≡ word ∷ rest → is_log_next words ≡ false
-    → ((message : ℕ × Option ℕ) → IsMessage word message → ⊥) → stop.due ≡ due.Message → stop.left ≡ length words → IsStop SomeMessageEnd words stop
+    → ((message : ℕ × Option ℕ) → IsMessage word message → ⊥) → stop.due ≡ due.NameOrEnd → stop.left ≡ length words → IsStop SomeMessageEnd words stop
 stop_no_message words stop word rest whole next none is_due left = stop_first SomeMessageEnd words stop left (rw (is_due, whole) at_word)
   where
     other : is_log_word true word ≡ false
@@ -259,10 +261,10 @@ stop_no_message words stop word rest whole next none is_due left = stop_first So
     stops : (b : Bool) → Begins (SomeMessageEnd b) (word ∷ []) → ⊥
     stops b m = by_case m.0 (message_first m.1.0 word m.0 m.1.1)
 
-    at_word : StopsBefore SomeMessageEnd [] due.Message (word ∷ rest)
-    at_word = StopsBefore.word word rest record {
+    at_word : StopsBefore SomeMessageEnd [] due.NameOrEnd (word ∷ rest)
+    at_word = stopping.word word rest record {
       begins = ([], (None, no_message [] (IsLog.none refl)));
       stops = stops false;
       expected = message_expected;
-      backward = (λ e. absurd (cc e), λ m. absurd (stops true m));
+      lax = (λ e. absurd (cc e), λ m. absurd (stops true m));
     }

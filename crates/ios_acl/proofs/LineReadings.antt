@@ -4,18 +4,18 @@ use Rattle.std.proofs.lemmas.Bool.{false_from_ne_true}
 use Rattle.std.proofs.lemmas.List.{append-nil, take_at, get_or_at}
 use Rattle.std.proofs.lemmas.Option.{slice_get_past, slice_get-get_or}
 use Rattle.ios_lex.specs.declared.reason.IosReason.{IosReason}
+use Rattle.ios_lex.specs.declared.stop.Stop.{Stop}
+use Rattle.ios_lex.specs.Phrases.{Words}
+use Rattle.ios_lex.specs.Stops.{expected_of, is_lax}
+use Rattle.ios_lex.specs.Stops as stops
 use Rattle.ios_acl.specs.declared.entry.Entry.{Entry}
 use Rattle.ios_acl.specs.declared.fault.AclFault.{AclFault}
 use Rattle.ios_acl.specs.declared.fault.AclFault.TheVariants as faults
-use Rattle.ios_acl.specs.declared.stop.Stop.{Stop}
-use Rattle.ios_acl.specs.Phrases.{Words}
-use Rattle.ios_acl.specs.Grammar.{IsEntry, IsRemark, IsSentence}
-use Rattle.ios_acl.specs.Grammar.{entry as of_entry, remark as of_remark}
+use Rattle.ios_acl.specs.Grammar.{IsEntry, IsRemark, IsSentence, entry as of_entry, remark as of_remark}
 use Rattle.ios_acl.specs.List.{AccessList, has_number}
 use Rattle.ios_acl.specs.Reading.{IsOpened, IsTaken, IsRefused, Reads, Sentence}
 use Rattle.ios_acl.specs.Reading as reading
-use Rattle.ios_acl.specs.Stops.{StopsBefore, IsStop, expected_of, is_backward}
-use Rattle.ios_acl.specs.Stops as stops
+use Rattle.ios_acl.specs.Stops.{StopsBefore, IsStop}
 use Rattle.ios_acl.specs.Faults.{IsFault, IsFor, stop_reason}
 use Rattle.ios_acl.specs.Adding.{Adds, CannotAdd, with_number}
 use Rattle.ios_acl.specs.Adding as adding
@@ -49,7 +49,7 @@ refused_before list words number rest front (word ∷ more) stop opened free who
     let here : slice_get rest (length rest - stop.left) ≡ Some word =
     rw place (slice_get-get_or rest (length front) word (rw whole (omega arith)) ∙ ap Some (rw whole (get_or_at front word more word (length front) refl))) in
     let before : take (length rest - stop.left) rest ≡ front = rw (place, whole) (take_at front (word ∷ more) (length front) refl) in
-    rw (here, before) (reading.stop number rest front more word (expected_of stop.due) (is_backward stop.due) opened free whole stopped)
+    rw (here, before) (reading.stop number rest front more word (expected_of stop.due) (is_lax stop.due) opened free whole stopped)
 
 -- a line is refused where its words stop to begin one
 pub stop_refused : (list : AccessList) (words : Words) (number : Option ℕ) (rest : Words) (stop : Stop) → IsOpened words number rest → (IsTaken list.entries number rest → ⊥)

@@ -4,14 +4,14 @@ use Rattle.std.specs.Str.{bytes_eq}
 use Rattle.std.proofs.lemmas.Bool.{or_cases, or_left, or_right, and_parts, and_from}
 use Rattle.std.proofs.lemmas.Slice.Eq.{bytes_eq-Decides}
 use Rattle.ios_lex.specs.Address.{IsAddress}
-use Rattle.ios_lex.specs.Names.{IsMessage}
-use Rattle.ios_acl.specs.Phrases.{Words}
+use Rattle.ios_lex.specs.Names.{IsMessage, IsMessageName}
+use Rattle.ios_lex.specs.Phrases.{Words}
+use Rattle.ios_lex.specs.Following.{IsNumberWord}
+use Rattle.ios_lex.specs.Refusal.{begins_with_digit}
+use Rattle.ios_lex.proofs.WordForms.{other_no_address, other_no_number, log_no_message, log_input_no_message}
 use Rattle.ios_acl.specs.Grammar as grammar
 use Rattle.ios_acl.specs.Grammar.{IsLog}
-use Rattle.ios_acl.specs.Following.{IsNumberWord, IsMessageName}
-use Rattle.ios_acl.specs.Refusal.{begins_with_digit}
 use Rattle.ios_acl.specs.Parts.{is_log_word}
-use Rattle.ios_acl.proofs.WordForms.{other_no_address, other_no_number, log_no_message, log_input_no_message}
 
 -- a word on logging is one of two
 pub log_text : (extended : Bool) (word : List ℕ) (more : Words) → IsLog extended (word ∷ more) → (word ≡ codes "log") ⊎ (word ≡ codes "log-input")

@@ -2,15 +2,15 @@
 use Rattle.std.proofs.Common.{◌≡◌, inl, inr, ℕ, Bool, true, false, List, [], ◌∷◌, ◌++◌, Option, Some, None, refl, sym, ap, ◌∙◌, codes}
 use Rattle.ios_lex.specs.Address.{IsAddress}
 use Rattle.ios_lex.specs.Names.{IsMessage}
+use Rattle.ios_lex.specs.Phrases.{Words, Then}
 use Rattle.ios_lex.proofs.AddressParts.{address_is_one}
 use Rattle.ios_lex.proofs.Spellings.{message_is_one, number_is_one}
+use Rattle.ios_lex.proofs.WordForms.{number_word, words_differ}
+use Rattle.ios_lex.proofs.OneCut.{IsOneCutBefore, same_cut, same_first}
 use Rattle.ios_acl.specs.declared.entry.Ports.{Ports}
-use Rattle.ios_acl.specs.Phrases.{Words, Then}
 use Rattle.ios_acl.specs.Grammar.{IsPlace, IsSource, ArePorts, ArePortsOf, AreMessages, AreMessagesOf, IsEstablishedOf, IsLog, with_ports}
 use Rattle.ios_acl.specs.Parts.{IsEnd}
 use Rattle.ios_acl.proofs.LogWords.{log_text, no_log_address, no_log_number, no_log_message}
-use Rattle.ios_acl.proofs.WordForms.{number_word, words_differ}
-use Rattle.ios_acl.proofs.OneCut.{IsOneCutBefore, same_cut, same_first}
 use Rattle.ios_acl.proofs.OnePart.{no_address_keyword, pair_is_one, place_is_one, ports_are_one, ports_begin, no_key_ports}
 
 -- behind a source stands at most a word on logging, which is no wildcard

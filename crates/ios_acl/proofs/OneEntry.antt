@@ -1,13 +1,13 @@
 -- Words spell one entry.
 use Rattle.std.proofs.Common.{◌≡◌, ℕ, Bool, true, false, ◌∷◌, ◌++◌, Option, refl, sym, ap, subst, ◌∙◌, codes}
+use Rattle.ios_lex.specs.Phrases.{Words, Then}
+use Rattle.ios_lex.proofs.WordForms.{words_differ}
+use Rattle.ios_lex.proofs.OneCut.{IsOneCut, same_cut, same_first}
 use Rattle.ios_acl.specs.declared.entry.Entry.{Entry}
 use Rattle.ios_acl.specs.declared.entry.Verdict.{Verdict}
 use Rattle.ios_acl.specs.declared.entry.Verdict.TheVariants as verdict
-use Rattle.ios_acl.specs.Phrases.{Words, Then}
 use Rattle.ios_acl.specs.Grammar.{IsVerdict, IsPlace, ArePortsOf, IsStandard, IsExtended, IsEntry, IsRemark, verdict_word}
 use Rattle.ios_acl.specs.Parts.{IsEnd}
-use Rattle.ios_acl.proofs.WordForms.{words_differ}
-use Rattle.ios_acl.proofs.OneCut.{IsOneCut, same_cut, same_first}
 use Rattle.ios_acl.proofs.OnePart.{place_is_one, proto_is_one, no_place_ports}
 use Rattle.ios_acl.proofs.OneEnd.{LacksPorts, source_is_one, ports_of_are_one, end_is_one}
 

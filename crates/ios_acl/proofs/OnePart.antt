@@ -1,15 +1,15 @@
 -- The parts of a line that show where they end: places, protocols and tests of ports.
 use Rattle.std.proofs.Common.{◌≡◌, ℕ, Bool, true, false, List, [], ◌∷◌, ◌++◌, refl, sym, ap, ◌∙◌, codes}
 use Rattle.ios_lex.specs.Address.{IsAddress}
+use Rattle.ios_lex.specs.Phrases.{Words}
+use Rattle.ios_lex.specs.Refusal.{begins_with_digit, is_among}
 use Rattle.ios_lex.proofs.AddressParts.{address_is_one}
 use Rattle.ios_lex.proofs.Spellings.{protocol_is_one, port_is_one}
+use Rattle.ios_lex.proofs.WordForms.{address_digit, no_ip_protocol, words_differ}
+use Rattle.ios_lex.proofs.OneCut.{IsOneCut, same_cut, same_first}
 use Rattle.ios_acl.specs.declared.entry.Ports.{Ports}
-use Rattle.ios_acl.specs.Phrases.{Words}
-use Rattle.ios_acl.specs.Refusal.{begins_with_digit, is_among}
 use Rattle.ios_acl.specs.Grammar.{IsPlace, IsProto, ArePorts, ports_below, ports_above}
 use Rattle.ios_acl.specs.Parts.{port_words}
-use Rattle.ios_acl.proofs.WordForms.{address_digit, no_ip_protocol, words_differ}
-use Rattle.ios_acl.proofs.OneCut.{IsOneCut, same_cut, same_first}
 
 -- a word that begins with no digit is no address
 pub no_address_keyword : (word key : List ℕ) (n : ℕ) → begins_with_digit key ≡ false → word ≡ key → IsAddress word n → ⊥

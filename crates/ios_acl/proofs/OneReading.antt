@@ -3,15 +3,17 @@ use Rattle.std.proofs.Common.{◌≡◌, ℕ, ◌<◌, ◌≤◌, Bool, true, fa
 use Rattle.std.proofs.lemmas.List.{append-nil}
 use Rattle.ios_lex.specs.declared.reason.IosReason.{IosReason}
 use Rattle.ios_lex.specs.declared.reason.IosReason.TheVariants as reason
+use Rattle.ios_lex.specs.Phrases.{Words}
+use Rattle.ios_lex.specs.Following.{Begins, Expected}
+use Rattle.ios_lex.proofs.Spellings.{number_is_one}
+use Rattle.ios_lex.proofs.OneStop.{stop_is_one, no_begins_behind_stop}
 use Rattle.ios_acl.specs.declared.entry.Entry.{Entry}
-use Rattle.ios_acl.specs.Phrases.{Words}
 use Rattle.ios_acl.specs.Grammar.{IsEntry, IsRemark, IsSentence}
 use Rattle.ios_acl.specs.List.{AccessList, with_entry, next_number, has_number, greatest_sequence, most_entries}
-use Rattle.ios_acl.specs.Following.{Begins, Expected}
-use Rattle.ios_acl.specs.Reading.{IsOpened, IsNumberOf, Reads, Sentence, IsTaken, StopsAt, reason_at, IsRefused}
-use Rattle.ios_lex.proofs.Spellings.{number_is_one}
+use Rattle.ios_acl.specs.Reading.{IsOpened, IsNumberOf, Reads, Sentence, IsTaken, IsRefused}
+use Rattle.ios_acl.specs.Stops.{StopsAt}
+use Rattle.ios_acl.specs.Refusal.{reason_at}
 use Rattle.ios_acl.proofs.OneEntry.{entry_is_one, no_entry_remark, no_verdict_remark}
-use Rattle.ios_acl.proofs.OneStop.{stop_is_one, no_begins_behind_stop}
 
 -- a line begins with one number, or with none
 pub record SameOpening (number number' : Option ℕ) (rest rest' : Words) : Type 0 where

@@ -1,17 +1,18 @@
 -- What the words of an address and of a place can be, and where they stop.
 use Rattle.std.proofs.Common.{◌≡◌, ◌⊎◌, ◌↔◌, inl, inr, ℕ, ◌^◌, ◌-◌, Bool, List, [], ◌∷◌, length, refl, codes}
 use Rattle.ios_lex.specs.Address.{IsAddress}
-use Rattle.ios_acl.specs.declared.stop.Due.TheVariants as due
-use Rattle.ios_acl.specs.declared.stop.Stop.{Stop}
-use Rattle.ios_acl.specs.Phrases.{Words}
+use Rattle.ios_lex.specs.declared.stop.Due.TheVariants as due
+use Rattle.ios_lex.specs.declared.stop.Stop.{Stop}
+use Rattle.ios_lex.specs.Phrases.{Words}
+use Rattle.ios_lex.specs.Following.{Begins, IsNumberWord}
+use Rattle.ios_lex.specs.Stops.{BeginsWith, LacksFirst}
+use Rattle.ios_lex.proofs.FirstStops.{stop_at_address}
+use Rattle.ios_lex.proofs.Stopping.{stop_behind}
+use Rattle.ios_lex.proofs.WordForms.{other_no_address, other_no_number, no_number_address, zero_address}
 use Rattle.ios_acl.specs.Grammar as grammar
 use Rattle.ios_acl.specs.Grammar.{IsPlace}
-use Rattle.ios_acl.specs.Following.{Begins, IsNumberWord}
-use Rattle.ios_acl.specs.Stops.{BeginsWith, IsStop, LacksFirst}
+use Rattle.ios_acl.specs.Stops.{IsStop}
 use Rattle.ios_acl.specs.Parts.{IsAddressOf, SomeAddress, SomePlace}
-use Rattle.ios_acl.proofs.FirstStops.{stop_at_address}
-use Rattle.ios_acl.proofs.Stopping.{stop_behind}
-use Rattle.ios_acl.proofs.WordForms.{other_no_address, other_no_number, no_number_address, zero_address}
 
 -- an address is one word
 address_alone : (n : ℕ) (word : List ℕ) (more : Words) → IsAddressOf n (word ∷ more) → IsAddress word n × (more ≡ [])

@@ -1,24 +1,25 @@
 -- What the words of a test of ports spell, and where they stop to spell one.
-use Rattle.std.proofs.Common.{◌≡◌, ◌⊎◌, inl, inr, ◌↔◌, ℕ, ◌≤◌, Bool, true, false, List, [], ◌∷◌, ◌++◌, length, refl, codes, lit<, lit≤, arith}
+use Rattle.std.proofs.Common.{◌≡◌, inl, inr, ◌↔◌, ℕ, ◌≤◌, Bool, true, false, List, [], ◌∷◌, ◌++◌, length, refl, codes, lit<, lit≤, arith}
 use Rattle.std.specs.Str.{bytes_eq}
-use Rattle.std.proofs.lemmas.Bool.{or_cases}
-use Rattle.std.proofs.lemmas.Slice.Eq.{bytes_eq-Decides}
 use Rattle.ios_lex.specs.Decimal.{IsNumber}
 use Rattle.ios_lex.specs.Names.{IsPort}
+use Rattle.ios_lex.specs.declared.stop.Due.TheVariants as due
+use Rattle.ios_lex.specs.declared.stop.Stop.{Stop}
+use Rattle.ios_lex.specs.Phrases.{Words}
+use Rattle.ios_lex.specs.Following.{Begins, MayFollow, IsAddressWord}
+use Rattle.ios_lex.specs.Refusal.{is_among}
+use Rattle.ios_lex.specs.Stops.{expecting, expected_of, BeginsWith}
+use Rattle.ios_lex.specs.Stops as stopping
 use Rattle.ios_lex.proofs.Spellings.{port_is_one}
+use Rattle.ios_lex.proofs.Stopping.{IsFirstPart, stop_first, stop_behind, stop_within}
+use Rattle.ios_lex.proofs.Among.{among_cases}
+use Rattle.ios_lex.proofs.WordForms.{number_word, no_address_port}
 use Rattle.ios_acl.specs.declared.entry.Ports.{Ports}
 use Rattle.ios_acl.specs.declared.entry.Ports.TheVariants as ports
-use Rattle.ios_acl.specs.declared.stop.Due.TheVariants as due
-use Rattle.ios_acl.specs.declared.stop.Stop.{Stop}
-use Rattle.ios_acl.specs.Phrases.{Words}
 use Rattle.ios_acl.specs.Grammar.{ArePorts, ports_below, ports_above}
-use Rattle.ios_acl.specs.Following.{Begins, MayFollow, IsExpected, IsAddressWord}
-use Rattle.ios_acl.specs.Refusal.{is_among}
-use Rattle.ios_acl.specs.Stops.{expecting, expected_of, StopsBefore, IsStop, BeginsWith}
+use Rattle.ios_acl.specs.Stops.{IsExpected, StopsBefore, IsStop}
 use Rattle.ios_acl.specs.Parts.{IsPortOf, SomePort, SomePortFrom, SomePorts, port_words}
-use Rattle.ios_acl.proofs.Stopping.{IsFirstPart, stop_first, stop_behind, stop_within}
 use Rattle.ios_acl.proofs.PrefixFree.{port_prefix_free}
-use Rattle.ios_acl.proofs.WordForms.{number_word, no_address_port}
 
 -- the greatest port ends each range
 greatest_port : IsNumber 65535 (codes "65535") 65535
@@ -47,7 +48,7 @@ port_expected : (tcp : Bool) (low : ℕ) → low ≤ 65535 → IsExpected (SomeP
 port_expected tcp low small = record {
   address = (λ e. absurd (cc e), λ m. absurd (address m));
   number = (λ e. (codes "65535", number_word 65535 (codes "65535") 65535 greatest_port, begins), λ m. refl);
-  message = (λ e. absurd (cc e), λ m. absurd (no_port_nowhere tcp low false m.0));
+  name = (λ e. absurd (cc e), λ m. absurd (no_port_nowhere tcp low false m.0));
   whole = (λ e. absurd (cc e), λ m. absurd (no_port_nowhere tcp low false m));
 }
   where
@@ -69,12 +70,12 @@ no_port_first tcp words word more whole none other more' whole' n is =
 
 -- words that begin with no port stop at the first
 no_port : (tcp : Bool) (low : ℕ) (words : Words) → low ≤ 65535 → LacksPort tcp words → StopsBefore (SomePortFrom tcp low) [] due.Number words
-no_port tcp low [] small none = StopsBefore.short (begins_from tcp low small) (no_port_nowhere tcp low false)
-no_port tcp low (word ∷ more) small none = StopsBefore.word word more record {
+no_port tcp low [] small none = stopping.short (begins_from tcp low small) (no_port_nowhere tcp low false)
+no_port tcp low (word ∷ more) small none = stopping.word word more record {
   begins = begins_from tcp low small;
   stops = stops false;
   expected = port_expected tcp low small;
-  backward = (λ e. absurd (cc e), λ m. absurd (stops true m));
+  lax = (λ e. absurd (cc e), λ m. absurd (stops true m));
 }
   where
     stops : (b : Bool) → Begins (SomePortFrom tcp low b) (word ∷ []) → ⊥
@@ -83,11 +84,11 @@ no_port tcp low (word ∷ more) small none = StopsBefore.word word more record {
 -- and those that begin with a port that is too low
 low_port : (tcp : Bool) (low high : ℕ) (word : List ℕ) (more : Words) → low ≤ 65535 → IsPort tcp word high → (low ≤ high → ⊥)
     → StopsBefore (SomePortFrom tcp low) [] due.Order (word ∷ more)
-low_port tcp low high word more small is below = StopsBefore.word word more record {
+low_port tcp low high word more small is below = stopping.word word more record {
   begins = begins_from tcp low small;
   stops = stops;
   expected = port_expected tcp low small;
-  backward = (λ e. ([], (high, (word, refl, is), λ strict. absurd (cc strict))), λ m. refl);
+  lax = (λ e. ([], (high, (word, refl, is), λ strict. absurd (cc strict))), λ m. refl);
 }
   where
     stops : Begins (SomePortFrom tcp low false) (word ∷ []) → ⊥
@@ -113,12 +114,6 @@ pub stop_low_port : (tcp : Bool) (low high : ℕ) (words : Words) (stop : Stop) 
     → IsPort tcp word high → (low ≤ high → ⊥) → stop.due ≡ due.Order → stop.left ≡ length words → IsStop (SomePortFrom tcp low) words stop
 stop_low_port tcp low high words stop word more small whole is below due left =
     stop_first (SomePortFrom tcp low) words stop left (rw (due, whole) (low_port tcp low high word more small is below))
-
--- a word among some is the first of them or one of the others
-pub among_cases : (first : List ℕ) (others : Words) (word : List ℕ) → is_among (first ∷ others) word ≡ true → (word ≡ first) ⊎ (is_among others word ≡ true)
-among_cases first others word among =
-    elim (or_cases (bytes_eq word first) (is_among others word) among)
-    [ inl same ↦ inl ((bytes_eq-Decides word first).0 same) | inr later ↦ inr later ]
 
 -- the word before one port, or `range`
 pub data IsTestWord (word : List ℕ) : Type 0 where

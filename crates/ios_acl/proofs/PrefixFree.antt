@@ -1,20 +1,11 @@
 -- The parts of a line from whose words nothing goes on.
-use Rattle.std.proofs.Common.{◌≡◌, ℕ, Bool, List, [], ◌∷◌, ◌++◌, Option, subst, sym, ap, ◌∙◌}
-use Rattle.ios_acl.specs.Phrases.{Words}
+use Rattle.std.proofs.Common.{ℕ, Bool, ◌++◌, Option, subst, sym, ◌∙◌}
+use Rattle.ios_lex.proofs.Stopping.{IsPrefixFree}
+use Rattle.ios_lex.proofs.OneCut.{prefix_free_from_one, single_word_prefix_free}
 use Rattle.ios_acl.specs.Grammar.{IsPlace, IsProto, ArePorts}
 use Rattle.ios_acl.specs.Parts.{SomeAddress, SomePlace, SomeProto, SomePort, SomePorts, SomePortsOf}
-use Rattle.ios_acl.proofs.Stopping.{IsPrefixFree}
-use Rattle.ios_acl.proofs.OneCut.{prefix_free_from_one}
 use Rattle.ios_acl.proofs.OnePart.{place_is_one, proto_is_one, ports_are_one}
 use Rattle.ios_acl.proofs.OneEnd.{tcp_is_one}
-
--- single words are such a part
-pub single_word_prefix_free : (Kind : Words → Type 0) → ((words : Words) → Kind words → (word : List ℕ) × (words ≡ word ∷ [])) → IsPrefixFree Kind
-single_word_prefix_free Kind single words more first second =
-    let one = single words first in
-    let longer = single (words ++ more) second in
-    let same : ◌≡◌ {A = Words} (one.0 ∷ more) (longer.0 ∷ []) = sym (ap (λ (front : Words). front ++ more) one.1) ∙ longer.1 in
-    cc
 
 pub address_prefix_free : (b : Bool) → IsPrefixFree (SomeAddress b)
 address_prefix_free b = single_word_prefix_free (SomeAddress b) (λ words is. (is.1.0, is.1.1))

@@ -1,15 +1,16 @@
 -- Protocols: the words that spell one, and where words stop to begin one.
 use Rattle.std.proofs.Common.{◌≡◌, inr, ℕ, Bool, false, List, [], ◌∷◌, Option, Some, None, codes, length, refl}
 use Rattle.ios_lex.specs.Names.{IsProtocol}
-use Rattle.ios_acl.specs.declared.stop.Due.TheVariants as due
-use Rattle.ios_acl.specs.declared.stop.Stop.{Stop}
-use Rattle.ios_acl.specs.Phrases.{Words}
-use Rattle.ios_acl.specs.Following.{Begins, MayFollow, IsAddressWord, IsNumberWord}
+use Rattle.ios_lex.specs.declared.stop.Due.TheVariants as due
+use Rattle.ios_lex.specs.declared.stop.Stop.{Stop}
+use Rattle.ios_lex.specs.Phrases.{Words}
+use Rattle.ios_lex.specs.Following.{Begins, MayFollow, IsAddressWord, IsNumberWord}
+use Rattle.ios_lex.specs.Stops.{BeginsWith, LacksFirst}
+use Rattle.ios_lex.proofs.FirstStops.{expected, unexpected, stop_at}
+use Rattle.ios_lex.proofs.WordForms.{no_address_protocol, number_word, other_no_address, zero_number}
 use Rattle.ios_acl.specs.Grammar.{IsProto}
-use Rattle.ios_acl.specs.Stops.{BeginsWith, IsStop, LacksFirst}
+use Rattle.ios_acl.specs.Stops.{IsStop}
 use Rattle.ios_acl.specs.Parts.{SomeProto}
-use Rattle.ios_acl.proofs.FirstStops.{expected, unexpected, stop_at}
-use Rattle.ios_acl.proofs.WordForms.{no_address_protocol, number_word, other_no_address, zero_number}
 
 pub every_read : (words rest : Words) → words ≡ codes "ip" ∷ rest → BeginsWith (IsProto None) words rest
 every_read words rest whole = (codes "ip" ∷ [], whole, IsProto.every refl refl)
@@ -41,5 +42,5 @@ pub proto_stop : (words : Words) (stop : Stop) → stop.left ≡ length words �
 proto_stop words stop left is lacks =
     let none : SomeProto false [] → ⊥ = λ proto. no_proto proto.0 proto.1 in
     stop_at SomeProto words stop due.Number left is refl (codes "ip" ∷ [], (None, IsProto.every refl refl))
-    (record { address = unexpected no_address_proto; number = expected number_proto; message = unexpected (λ h. none h.0); whole = unexpected none })
+    (record { address = unexpected no_address_proto; number = expected number_proto; name = unexpected (λ h. none h.0); whole = unexpected none })
     (λ empty. none) lacks

@@ -1,24 +1,28 @@
 -- The reason of a stop.
-use Rattle.std.proofs.Common.{◌≡◌, ℕ, ◌-◌, ◌<◌, Bool, List, [], ◌∷◌, length, take, slice_get, Option, Some, None, refl, arith, length-take}
+use Rattle.std.proofs.Common.{◌≡◌, ℕ, ◌-◌, List, length, take, slice_get, Option, Some, Result, Ok, Err, IfOk, IfErr, refl, arith, length-take}
 use Rattle.std.proofs.lemmas.Option.{slice_get_within}
-use Rattle.ios_acl.specs.declared.stop.Stop.{Stop}
-use Rattle.ios_acl.specs.Phrases.{Words}
-use Rattle.ios_acl.specs.Following.{Expected}
-use Rattle.ios_acl.specs.Refusal.{reason_of}
-use Rattle.ios_acl.specs.Reading.{reason_at}
-use Rattle.ios_acl.specs.Stops.{expected_of, is_backward}
-use Rattle.ios_acl.specs.Faults.{stop_reason}
+use Rattle.ios_lex.specs.declared.reason.IosReason.{IosReason}
+use Rattle.ios_lex.specs.declared.reason.IosReason.TheVariants as reason
+use Rattle.ios_lex.specs.declared.stop.Stop.{Stop}
+use Rattle.ios_lex.specs.Phrases.{Words}
+use Rattle.ios_lex.specs.Refusal.{reason_of, table_at}
+use Rattle.ios_lex.specs.Stops.{expected_of, is_lax}
+use Rattle.ios_acl.specs.declared.fault.AclFault.{AclFault}
+use Rattle.ios_acl.specs.declared.fault.AclFault.TheVariants as faults
+use Rattle.ios_acl.specs.Refusal.{from_word, unmodelled, unmodelled_first}
+use Rattle.ios_acl.specs.Faults.{IsFor, stop_reason}
 
-later : (number : Option ℕ) (front : Words) (expected : Expected) (backward : Bool) (word : List ℕ) → (number ≡ None → 0 < length front)
-    → reason_at number front expected backward word ≡ reason_of expected backward word
-later (Some n) front expected backward word some = refl
-later None (first ∷ front) expected backward word some = refl
-later None [] expected backward word some = absurd (omega (arith, some refl))
-
--- a word that is not the first of all is refused as such
-pub reason_later : (number : Option ℕ) (rest : Words) (stop : Stop) (word : List ℕ) → slice_get rest (length rest - stop.left) ≡ Some word → (number ≡ None → 0 < length rest - stop.left)
-    → stop_reason number rest stop ≡ reason_of (expected_of stop.due) (is_backward stop.due) word
-reason_later number rest stop word is some =
+-- a stop at a word is refused as that word of the line
+pub reason_there : (number : Option ℕ) (rest : Words) (stop : Stop) (word : List ℕ) → slice_get rest (length rest - stop.left) ≡ Some word
+    → stop_reason number rest stop ≡ reason_of (table_at (from_word number) unmodelled_first unmodelled (length rest - stop.left)) reason.BadNumber (expected_of stop.due) (is_lax stop.due) word
+reason_there number rest stop word is =
     let within = slice_get_within rest (length rest - stop.left) word is in
-    let long = length-take (length rest - stop.left) rest in
-    rw is (later number (take (length rest - stop.left) rest) (expected_of stop.due) (is_backward stop.due) word (λ none. omega (arith, some none)))
+    let cut = length-take (length rest - stop.left) rest in
+    let long : length (take (length rest - stop.left) rest) ≡ length rest - stop.left = omega arith in
+    rw (is, long) refl
+
+-- what is handed out is for this reason, unless memory is wanting
+pub fault_for_reason : {E : Type 0} (found : Result IosReason E) (why : IosReason) (fault : AclFault) → IfOk found (λ given. given ≡ why) → IfOk found (λ given. fault ≡ faults.Refused given)
+    → IfErr found (λ _. fault ≡ faults.NoMemory) → IsFor why fault
+fault_for_reason (Ok given) why fault is refused memory = rw refused is
+fault_for_reason (Err e) why fault is refused memory = rw memory tt

@@ -1,22 +1,23 @@
 -- Lines behind their number: their first words, and what stands behind a verdict.
 use Rattle.std.proofs.Common.{◌≡◌, ◌↔◌, ℕ, ◌^◌, ◌-◌, Bool, true, false, List, [], ◌∷◌, Option, Some, None, codes, length, refl}
+use Rattle.ios_lex.specs.declared.stop.Due.TheVariants as due
+use Rattle.ios_lex.specs.declared.stop.Stop.{Stop}
+use Rattle.ios_lex.specs.Phrases.{Words}
+use Rattle.ios_lex.specs.Following.{Begins, MayFollow, IsAddressWord, IsNumberWord}
+use Rattle.ios_lex.specs.Refusal.{begins_with_digit}
+use Rattle.ios_lex.specs.Stops.{LacksFirst}
+use Rattle.ios_lex.proofs.FirstStops.{unexpected, stop_at}
+use Rattle.ios_lex.proofs.Stopping.{stop_behind}
+use Rattle.ios_lex.proofs.WordForms.{other_no_address, other_no_number}
 use Rattle.ios_acl.specs.declared.entry.Entry.{Entry}
 use Rattle.ios_acl.specs.declared.entry.Ports.TheVariants as ports
 use Rattle.ios_acl.specs.declared.entry.Verdict.{Verdict}
 use Rattle.ios_acl.specs.declared.entry.Verdict.TheVariants as verdict
-use Rattle.ios_acl.specs.declared.stop.Due.TheVariants as due
-use Rattle.ios_acl.specs.declared.stop.Stop.{Stop}
-use Rattle.ios_acl.specs.Phrases.{Words}
-use Rattle.ios_acl.specs.Following.{Begins, MayFollow, IsAddressWord, IsNumberWord}
-use Rattle.ios_acl.specs.Refusal.{begins_with_digit}
 use Rattle.ios_acl.specs.Grammar.{IsExtended, IsSentence, IsStandard, verdict_word}
 use Rattle.ios_acl.specs.Reading.{Sentence}
-use Rattle.ios_acl.specs.Stops.{IsStop, LacksFirst}
+use Rattle.ios_acl.specs.Stops.{IsStop}
 use Rattle.ios_acl.specs.Parts.{SomeExtended, SomeSourceEnd}
-use Rattle.ios_acl.proofs.FirstStops.{unexpected, stop_at}
 use Rattle.ios_acl.proofs.OneEntry.{entry_begins, no_verdict_remark}
-use Rattle.ios_acl.proofs.Stopping.{stop_behind}
-use Rattle.ios_acl.proofs.WordForms.{other_no_address, other_no_number}
 
 -- the words with which a line begins
 pub data IsFirst (word : List ℕ) : Type 0 where
@@ -46,9 +47,9 @@ no_sentence_begins extended word no_remark no_verdict b (more, (line, is)) = by 
     by (IsFirst.decides v same) = no_verdict v same
 
 -- no first word stands there
-pub sentence_stop : (extended : Bool) (words : Words) (stop : Stop) → stop.left ≡ length words → stop.due ≡ due.Verdict → ((b : Bool) → LacksFirst (Sentence extended b) words) → IsStop (Sentence extended) words stop
-sentence_stop extended words stop left is lacks = stop_at (Sentence extended) words stop due.Verdict left is refl (codes "remark" ∷ [], (None, IsSentence.remark (record { text = []; whole = refl })))
-    (record { address = unexpected no_address; number = unexpected no_number; message = unexpected (λ h. none h.0); whole = unexpected none })
+pub sentence_stop : (extended : Bool) (words : Words) (stop : Stop) → stop.left ≡ length words → stop.due ≡ due.Keyword → ((b : Bool) → LacksFirst (Sentence extended b) words) → IsStop (Sentence extended) words stop
+sentence_stop extended words stop left is lacks = stop_at (Sentence extended) words stop due.Keyword left is refl (codes "remark" ∷ [], (None, IsSentence.remark (record { text = []; whole = refl })))
+    (record { address = unexpected no_address; number = unexpected no_number; name = unexpected (λ h. none h.0); whole = unexpected none })
     (λ empty. none) lacks
   where
     none : Sentence extended false [] → ⊥

@@ -1,23 +1,20 @@
 -- The words of a line have a reading or a refusal.
-use Rattle.std.proofs.Common.{◌≡◌, ◌↔◌, ◌⊎◌, inl, inr, ℕ, ◌<◌, ◌≤◌, Bool, true, false, IsTrue, List, [], ◌∷◌, ◌++◌, length, Option, Some, None, codes, refl, sym, ◌∙◌, append_assoc}
+use Rattle.std.proofs.Common.{◌≡◌, ◌⊎◌, inl, inr, ℕ, ◌<◌, ◌≤◌, Bool, true, false, List, [], ◌∷◌, length, Option, Some, None, codes, refl, sym}
 use Rattle.std.proofs.lemmas.Bool.{cases_lt}
-use Rattle.std.proofs.lemmas.List.{append-nil}
 use Rattle.ios_lex.specs.declared.reason.IosReason.{IosReason}
 use Rattle.ios_lex.specs.declared.reason.IosReason.TheVariants as reason
+use Rattle.ios_lex.specs.Phrases.{Words}
+use Rattle.ios_lex.specs.Following.{Begins}
+use Rattle.ios_lex.specs.Names.{IsMessageName}
+use Rattle.ios_lex.proofs.SomeStop.{some_stop}
 use Rattle.ios_acl.specs.declared.entry.Entry.{Entry}
-use Rattle.ios_acl.specs.Phrases.{Words}
 use Rattle.ios_acl.specs.Grammar.{IsEntry, IsSentence}
 use Rattle.ios_acl.specs.List.{AccessList, with_entry, next_number, has_number, greatest_sequence, most_entries}
-use Rattle.ios_acl.specs.Following.{Begins, Expected, MayFollow, IsAddressWord, IsNumberWord, IsMessageName}
-use Rattle.ios_acl.specs.Reading.{IsOpened, IsSequence, IsNumberOf, Reads, Sentence, IsTaken, reason_at, IsRefused}
+use Rattle.ios_acl.specs.Reading.{IsOpened, IsSequence, IsNumberOf, Reads, Sentence, IsTaken, IsRefused}
+use Rattle.ios_acl.specs.Refusal.{reason_at}
 use Rattle.ios_acl.specs.Adding.{with_number}
-use Rattle.ios_acl.proofs.FirstStops.{expected, unexpected}
 use Rattle.ios_acl.proofs.Insertion.{spelled_numbered}
 use Rattle.ios_acl.proofs.OneEntry.{entry_begins}
-
--- no fact is neither true nor false
-no_undecided : (P : Type 0) → ((holds : Bool) → IsTrue holds ↔ P → ⊥) → ⊥
-no_undecided P none = none false (unexpected (λ p. none true (expected p)))
 
 -- a line begins with a number or without one
 no_unopened : (words : Words) → ((number : Option ℕ) (rest : Words) → IsOpened words number rest → ⊥) → ⊥
@@ -70,44 +67,19 @@ no_sentence : (list : AccessList) (words : Words) (number : Option ℕ) (rest : 
 no_sentence list words number rest line lost opened (IsSentence.entry e is) = no_entry list words number rest e lost opened is
 no_sentence list words number rest line lost opened (IsSentence.remark is) = lost.unread list (Reads.remark number rest opened is refl)
 
--- a line that is none is refused where it stops to begin one
-no_stop : (list : AccessList) (words : Words) (number : Option ℕ) (rest front more : Words) (word : List ℕ) → IsLost list words → IsOpened words number rest
-    → (IsTaken list.entries number rest → ⊥) → rest ≡ front ++ word ∷ more → Begins (Sentence list.extended false) front
-    → (Begins (Sentence list.extended false) (front ++ word ∷ []) → ⊥) → ⊥
-no_stop list words number rest front more word lost opened free whole begins stops =
-    no_undecided (MayFollow Line front IsAddressWord) (
-    λ address is_address. no_undecided (MayFollow Line front IsNumberWord) (
-    λ number_there is_number. no_undecided (Line front × MayFollow Line front IsMessageName) (
-    λ message is_message. no_undecided (Line front) (
-    λ ends is_whole. no_undecided (Begins (Sentence list.extended true) (front ++ word ∷ [])) (
-    λ backward is_backward.
-    let due : Expected = record { address = address; number = number_there; message = message; whole = ends } in
-    lost.unrefused (reason_at number front due backward word) (IsRefused.stop number rest front more word due backward opened free whole (record {
-      begins = begins;
-      stops = stops;
-      expected = record { address = is_address; number = is_number; message = is_message; whole = is_whole };
-      backward = is_backward;
-    })))))))
-  where
-    Line : Words → Type 0
-    Line = Sentence list.extended false
-
 -- a line may be a remark, so it begins
 remark_begins : (extended : Bool) → Begins (Sentence extended false) []
 remark_begins extended = (codes "remark" ∷ [], (None, IsSentence.remark (record { text = []; whole = refl })))
 
--- where a front begins a line, the words behind it are some more of it, or the first that are not stop it
-no_front : (list : AccessList) (words : Words) (number : Option ℕ) (rest front more : Words) → IsLost list words → IsOpened words number rest
-    → (IsTaken list.entries number rest → ⊥) → rest ≡ front ++ more → Begins (Sentence list.extended false) front → ⊥
-no_front list words number rest front [] lost opened free whole begins =
-    let all : Begins (Sentence list.extended false) rest = rw (whole, append-nil front) begins in
-    lost.unrefused reason.BadEntry (IsRefused.short number rest opened free all (λ h. no_sentence list words number rest h.0 lost opened h.1))
-no_front list words number rest front (word ∷ more) lost opened free whole begins =
-    no_stop list words number rest front more word lost opened free whole begins (
-    λ further. no_front list words number rest (front ++ word ∷ []) more lost opened free (whole ∙ sym (append_assoc front (word ∷ []) more)) further)
-
 pub some_reading : (list : AccessList) (words : Words) → ((new : AccessList) → Reads list words new → ⊥) → ((why : IosReason) → IsRefused list words why → ⊥) → ⊥
-some_reading list words unread unrefused =
-    let lost : IsLost list words = record { unread = unread; unrefused = unrefused } in
-    no_unopened words (λ number rest opened. no_front list words number rest [] rest lost opened
-    (λ taken. unrefused reason.DuplicateSequence (IsRefused.taken number rest opened taken)) refl (remark_begins list.extended))
+some_reading list words unread unrefused = no_unopened words opened_reading
+  where
+    lost : IsLost list words
+    lost = record { unread = unread; unrefused = unrefused }
+
+    opened_reading : (number : Option ℕ) (rest : Words) → IsOpened words number rest → ⊥
+    opened_reading number rest opened =
+        let free : IsTaken list.entries number rest → ⊥ = λ taken. unrefused reason.DuplicateSequence (IsRefused.taken number rest opened taken) in
+        some_stop IsMessageName (Sentence list.extended) rest (remark_begins list.extended)
+        (λ front more word due over whole stops. unrefused (reason_at number front due over word) (IsRefused.stop number rest front more word due over opened free whole stops))
+        (λ all. unrefused reason.BadEntry (IsRefused.short number rest opened free all (λ h. no_sentence list words number rest h.0 lost opened h.1)))

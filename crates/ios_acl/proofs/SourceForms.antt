@@ -1,20 +1,21 @@
 -- What the words of a standard entry behind its verdict can be, and where they stop.
 use Rattle.std.proofs.Common.{◌≡◌, ◌↔◌, inl, inr, ℕ, ◌^◌, ◌-◌, Bool, false, List, [], ◌∷◌, ◌++◌, length, refl, ◌∙◌, ap, codes}
 use Rattle.ios_lex.specs.Address.{IsAddress}
-use Rattle.ios_acl.specs.declared.stop.Due.TheVariants as due
-use Rattle.ios_acl.specs.declared.stop.Stop.{Stop}
-use Rattle.ios_acl.specs.Phrases.{Words, Then}
+use Rattle.ios_lex.specs.declared.stop.Due.TheVariants as due
+use Rattle.ios_lex.specs.declared.stop.Stop.{Stop}
+use Rattle.ios_lex.specs.Phrases.{Words, Then}
+use Rattle.ios_lex.specs.Following.{Begins, IsNumberWord}
+use Rattle.ios_lex.specs.Stops.{expected_of, BeginsWith, LacksFirst}
+use Rattle.ios_lex.proofs.FirstStops.{stop_at_address}
+use Rattle.ios_lex.proofs.Stopping.{IsFirstPart, stop_behind, stop_within}
+use Rattle.ios_lex.proofs.WordForms.{other_no_address, other_no_number, no_number_address, zero_address}
 use Rattle.ios_acl.specs.Grammar as grammar
 use Rattle.ios_acl.specs.Grammar.{IsSource, IsLog}
-use Rattle.ios_acl.specs.Following.{Begins, IsNumberWord}
-use Rattle.ios_acl.specs.Stops.{expected_of, BeginsWith, IsStop, LacksFirst}
+use Rattle.ios_acl.specs.Stops.{IsStop}
 use Rattle.ios_acl.specs.Parts.{IsAddressOf, IsWildcardOf, IsWildcardEnd, IsSourceEnd, SomeAddress, SomeWildcardEnd, SomeSourceEnd, SomeLog}
-use Rattle.ios_acl.proofs.FirstStops.{stop_at_address}
 use Rattle.ios_acl.proofs.PlaceForms.{host_read}
 use Rattle.ios_acl.proofs.PrefixFree.{address_prefix_free}
-use Rattle.ios_acl.proofs.Stopping.{IsFirstPart, stop_behind, stop_within}
 use Rattle.ios_acl.proofs.WildcardForms.{wildcard_none, wildcard_some}
-use Rattle.ios_acl.proofs.WordForms.{other_no_address, other_no_number, no_number_address, zero_address}
 
 -- what stands behind `host`
 abbrev IsHostEnd : ℕ → Words → Type 0

@@ -1,18 +1,19 @@
 -- What stands behind the address of a standard entry, and where it stops.
 use Rattle.std.proofs.Common.{◌≡◌, ◌⊎◌, ◌↔◌, inl, inr, ℕ, Bool, false, List, [], ◌∷◌, ◌++◌, length, refl, codes}
 use Rattle.ios_lex.specs.Address.{IsAddress}
-use Rattle.ios_acl.specs.declared.stop.Due.TheVariants as due
-use Rattle.ios_acl.specs.declared.stop.Stop.{Stop}
-use Rattle.ios_acl.specs.Phrases.{Words}
+use Rattle.ios_lex.specs.declared.stop.Due.TheVariants as due
+use Rattle.ios_lex.specs.declared.stop.Stop.{Stop}
+use Rattle.ios_lex.specs.Phrases.{Words}
+use Rattle.ios_lex.specs.Following.{Begins, IsNumberWord}
+use Rattle.ios_lex.specs.Names.{IsMessageName}
+use Rattle.ios_lex.proofs.FirstStops.{expected, unexpected, stop_at, stop_ahead, lacks_word}
+use Rattle.ios_lex.proofs.Stopping.{stop_behind}
+use Rattle.ios_lex.proofs.WordForms.{other_no_address, no_number_address, message_name_form, zero_address}
 use Rattle.ios_acl.specs.Grammar as grammar
 use Rattle.ios_acl.specs.Grammar.{IsLog}
-use Rattle.ios_acl.specs.Following.{Begins, IsNumberWord, IsMessageName}
 use Rattle.ios_acl.specs.Stops.{IsStop}
 use Rattle.ios_acl.specs.Parts.{IsWildcardOf, IsWildcardEnd, SomeWildcardEnd, SomeLog}
-use Rattle.ios_acl.proofs.FirstStops.{expected, unexpected, stop_at, stop_ahead, lacks_word}
 use Rattle.ios_acl.proofs.LogWords.{plain_log, no_log_address, no_log_number, no_log_name}
-use Rattle.ios_acl.proofs.Stopping.{stop_behind}
-use Rattle.ios_acl.proofs.WordForms.{other_no_address, no_number_address, message_name_form, zero_address}
 
 -- the wildcard is left out, or stands first
 pub wildcard_none : (words : Words) → IsLog false words → IsWildcardEnd 0 words
@@ -58,14 +59,14 @@ no_wildcard_begins word no_log none b begins = by_case begins.1.0 begins.0 (wild
     by_case n more (inr some) = none n some.0
 
 -- neither of them stands first
-pub wildcard_stop : (words rest : Words) (word : List ℕ) (stop : Stop) → stop.left ≡ length words → stop.due ≡ due.Wildcard
+pub wildcard_stop : (words rest : Words) (word : List ℕ) (stop : Stop) → stop.left ≡ length words → stop.due ≡ due.AddressOrEnd
     → words ≡ word ∷ rest → (word ≡ codes "log" → ⊥) → ((n : ℕ) → IsAddress word n → ⊥) → IsStop SomeWildcardEnd words stop
 wildcard_stop words rest word stop left is whole no_log none =
-    stop_at SomeWildcardEnd words stop due.Wildcard left is refl ([], (0, wildcard_none [] (grammar.none refl)))
+    stop_at SomeWildcardEnd words stop due.AddressOrEnd left is refl ([], (0, wildcard_none [] (grammar.none refl)))
     (record {
       address = expected (codes "0.0.0.0", (0, zero_address), ([], (0, wildcard_some (codes "0.0.0.0") 0 [] zero_address (grammar.none refl))));
       number = unexpected (λ h. no_wildcard_number h.2.1.0 h.0 h.2.0 h.2.1.1 h.1);
-      message = unexpected (λ h. no_wildcard_name h.1.2.1.0 h.1.0 h.1.2.0 h.1.2.1.1 h.1.1);
+      name = unexpected (λ h. no_wildcard_name h.1.2.1.0 h.1.0 h.1.2.0 h.1.2.1.1 h.1.1);
       whole = expected (0, wildcard_none [] (grammar.none refl));
     })
     (λ empty. absurd (cc))

@@ -8,6 +8,7 @@ use Rattle.std.proofs.lemmas.List.{append-nil}
 use Rattle.std.proofs.lemmas.List.Folds.{list_all-append}
 use Rattle.ios_lex.specs.Address.{dotted}
 use Rattle.ios_lex.specs.Names.{IsProtocol}
+use Rattle.ios_lex.specs.Phrases.{Words, Then}
 use Rattle.ios_lex.proofs.AddressTexts.{dotted_address, address_small}
 use Rattle.ios_lex.proofs.DecimalTexts.{decimal_number}
 use Rattle.ios_acl.specs.declared.entry.Entry.{Entry}
@@ -15,7 +16,6 @@ use Rattle.ios_acl.specs.declared.entry.Ports.{Ports}
 use Rattle.ios_acl.specs.declared.entry.Ports.TheVariants as ports
 use Rattle.ios_acl.specs.declared.entry.Verdict.{Verdict}
 use Rattle.ios_acl.specs.declared.entry.Verdict.TheVariants as verdict
-use Rattle.ios_acl.specs.Phrases.{Words, Then}
 use Rattle.ios_acl.specs.Grammar.{verdict_word, IsVerdict, IsPlace, IsSource, IsProto, ports_below, ports_above, ArePorts, ArePortsOf, AreMessages, AreMessagesOf, IsEstablishedOf, IsLog, IsStandard, IsExtended, IsEntry}
 use Rattle.ios_acl.specs.List.{IsWritable}
 use Rattle.ios_acl.specs.Spelling.{place_words, proto_word, range_words, ports_words, code_words, message_words, established_words, match_words, sentence_words, entry_words}

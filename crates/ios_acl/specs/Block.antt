@@ -3,9 +3,9 @@ use Rattle.std.specs.Prelude.{◌≡◌, ℕ, ◌<◌, Bool, true, false, List, 
 use Rattle.std.specs.List.{AllByRecursion}
 use Rattle.ios_lex.specs.RawLines.{raw_lines}
 use Rattle.ios_lex.specs.Lines.{Reading, AreLines}
-use Rattle.ios_acl.specs.Phrases.{Words}
+use Rattle.ios_lex.specs.Phrases.{Words}
+use Rattle.ios_lex.specs.ListNames.{is_name, FitsName}
 use Rattle.ios_acl.specs.List.{AccessList}
-use Rattle.ios_acl.specs.ListNames.{is_name, FitsName}
 use Rattle.ios_acl.specs.Reading.{Reads}
 
 -- the list becomes `new` when the lines are read one after another

@@ -4,12 +4,12 @@ use Rattle.std.specs.Bool.{if◌then◌else◌}
 use Rattle.ios_lex.specs.Address.{IsAddress}
 use Rattle.ios_lex.specs.Decimal.{IsNumber}
 use Rattle.ios_lex.specs.Names.{IsProtocol, IsPort, IsMessage}
+use Rattle.ios_lex.specs.Phrases.{Words, Then}
 use Rattle.ios_acl.specs.declared.entry.Entry.{Entry}
 use Rattle.ios_acl.specs.declared.entry.Ports.{Ports}
 use Rattle.ios_acl.specs.declared.entry.Ports.TheVariants as ports
 use Rattle.ios_acl.specs.declared.entry.Verdict.{Verdict}
 use Rattle.ios_acl.specs.declared.entry.Verdict.TheVariants as verdict
-use Rattle.ios_acl.specs.Phrases.{Words, Then}
 
 abbrev pub verdict_word : Verdict → List ℕ
 verdict_word verdict.Permit = codes "permit"

@@ -1,15 +1,12 @@
 pub mod Matching
 pub mod Decision
-pub mod Phrases
 pub mod Grammar
 pub mod List
-pub mod Following
 pub mod Refusal
 pub mod Reading
 pub mod Stops
 pub mod Parts
 pub mod Faults
 pub mod Adding
-pub mod ListNames
 pub mod Block
 pub mod Spelling

@@ -1,8 +1,8 @@
 -- Access lists, and how they grow.
 use Rattle.std.specs.Prelude.{ℕ, ◌+◌, ◌<◌, ◌≤◌, ◌==◌, max, Bool, false, nat_lt, List, [], ◌∷◌, ◌++◌, fold, length}
 use Rattle.std.specs.List.{filter, list_any, AllByRecursion}
+use Rattle.ios_lex.specs.Phrases.{Words}
 use Rattle.ios_acl.specs.declared.entry.Entry.{Entry}
-use Rattle.ios_acl.specs.Phrases.{Words}
 use Rattle.ios_acl.specs.Grammar.{IsEntry}
 
 -- a list: its name, whether it is an extended one, and its entries in the order of their numbers

@@ -1,13 +1,10 @@
 -- When an entry of an access list matches a packet (Cisco IOS command references, `access-list`).
-use Rattle.std.specs.Prelude.{ℕ, Bool, true, false, not, ◌==◌, ◌&&◌, nat_le, Option, Some, None, bit_and, bit_or, bit_xor}
+use Rattle.std.specs.Prelude.{ℕ, Bool, true, false, not, ◌==◌, ◌&&◌, Option, Some, None, bit_and}
+use Rattle.bit_patterns.specs.Patterns.{agrees, within}
 use Rattle.ios_acl.specs.declared.entry.Entry.{Entry}
 use Rattle.ios_acl.specs.declared.entry.Ports.{Ports}
 use Rattle.ios_acl.specs.declared.entry.Ports.TheVariants as ports
 use Rattle.ios_acl.specs.declared.packet.Packet.{Packet}
-
--- the number differs from the address only in bits that are 1 in the wildcard; `wildcard_bits` says it bit by bit
-abbrev pub matches_wildcard : ℕ → ℕ → ℕ → Bool
-matches_wildcard x address wildcard = bit_or (bit_xor x address) wildcard == wildcard
 
 -- an entry without a protocol is for every protocol
 abbrev pub matches_protocol : ℕ → Option ℕ → Bool
@@ -16,7 +13,7 @@ matches_protocol protocol (Some wanted) = protocol == wanted
 
 abbrev pub matches_port : ℕ → Ports → Bool
 matches_port port ports.Any = true
-matches_port port (ports.Within low high) = nat_le low port && nat_le port high
+matches_port port (ports.Within low high) = within low high port
 matches_port port (ports.Not other) = not (port == other)
 matches_port port ports.Nothing = false
 
@@ -34,11 +31,12 @@ abbrev pub matches_established : ℕ → Bool → Bool
 matches_established flags false = true
 matches_established flags true = not (bit_and flags 20 == 0)
 
+-- an address of the packet agrees with that of the entry on the bits that are 0 in its wildcard
 abbrev pub matches : Entry → Packet → Bool
 matches entry packet =
     matches_protocol packet.proto entry.proto
-    && matches_wildcard packet.src entry.src.0 entry.src.1
-    && matches_wildcard packet.dst entry.dst.0 entry.dst.1
+    && agrees packet.src entry.src.0 entry.src.1
+    && agrees packet.dst entry.dst.0 entry.dst.1
     && matches_port packet.sport entry.sport
     && matches_port packet.dport entry.dport
     && matches_icmp packet.icmp_type packet.icmp_code entry.icmp

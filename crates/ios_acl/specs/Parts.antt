@@ -4,9 +4,9 @@ use Rattle.std.specs.Str.{bytes_eq}
 use Rattle.ios_lex.specs.Address.{IsAddress}
 use Rattle.ios_lex.specs.Decimal.{IsNumber}
 use Rattle.ios_lex.specs.Names.{IsPort}
+use Rattle.ios_lex.specs.Phrases.{Words, Then}
 use Rattle.ios_acl.specs.declared.entry.Entry.{Entry}
 use Rattle.ios_acl.specs.declared.entry.Ports.{Ports}
-use Rattle.ios_acl.specs.Phrases.{Words, Then}
 use Rattle.ios_acl.specs.Grammar.{IsPlace, IsSource, IsProto, ArePorts, ArePortsOf, AreMessagesOf, IsEstablishedOf, IsLog, IsExtended, with_ports}
 
 abbrev pub IsAddressOf : ℕ → Words → Type 0

@@ -1,15 +1,16 @@
 -- What a list becomes with the words of one more line, or why the line is refused.
-use Rattle.std.specs.Prelude.{◌≡◌, ◌↔◌, ℕ, ◌<◌, ◌≤◌, Bool, true, false, IsTrue, List, [], ◌∷◌, ◌++◌, length, Option, Some, None}
+use Rattle.std.specs.Prelude.{◌≡◌, ℕ, ◌<◌, ◌≤◌, Bool, true, false, List, ◌∷◌, ◌++◌, length, Option, Some, None}
 use Rattle.ios_lex.specs.Decimal.{IsNumber}
 use Rattle.ios_lex.specs.declared.reason.IosReason.{IosReason}
 use Rattle.ios_lex.specs.declared.reason.IosReason.TheVariants as reason
+use Rattle.ios_lex.specs.Phrases.{Words}
+use Rattle.ios_lex.specs.Following.{Begins, Expected}
 use Rattle.ios_acl.specs.declared.entry.Entry.{Entry}
 use Rattle.ios_acl.specs.declared.entry.Verdict.{Verdict}
-use Rattle.ios_acl.specs.Phrases.{Words}
 use Rattle.ios_acl.specs.Grammar.{IsEntry, IsRemark, IsSentence, verdict_word}
 use Rattle.ios_acl.specs.List.{AccessList, with_entry, next_number, has_number, greatest_sequence, most_entries}
-use Rattle.ios_acl.specs.Following.{Begins, Expected, IsExpected}
-use Rattle.ios_acl.specs.Refusal.{reason_of, first_reason}
+use Rattle.ios_acl.specs.Refusal.{reason_at}
+use Rattle.ios_acl.specs.Stops.{StopsAt}
 
 -- the number that may stand first on a line
 pub record IsSequence (word : List ℕ) (n : ℕ) : Type 0 where
@@ -45,19 +46,6 @@ pub record IsTaken (entries : List Entry) (number : Option ℕ) (rest : Words) :
   pub given : number ≡ Some n
   pub has : has_number entries n ≡ true
   pub begins : rest ≡ verdict_word verdict ∷ more
-
--- the front begins a line, and no line goes on with the word
-pub record StopsAt (Line : Bool → Words → Type 0) (front : Words) (word : List ℕ) (due : Expected) (over : Bool) : Type 0 where
-  pub begins : Begins (Line false) front
-  pub stops : Begins (Line false) (front ++ word ∷ []) → ⊥
-  pub expected : IsExpected (Line false) front due
-  pub backward : IsTrue over ↔ Begins (Line true) (front ++ word ∷ [])
-
--- the first word of all has reasons of its own
-abbrev pub reason_at : Option ℕ → Words → Expected → Bool → List ℕ → IosReason
-reason_at None [] expected backward word = first_reason word
-reason_at None (first ∷ front) expected backward word = reason_of expected backward word
-reason_at (Some n) front expected backward word = reason_of expected backward word
 
 -- why a list does not take a line
 pub data IsRefused (list : AccessList) (words : Words) : IosReason → Type 0 where

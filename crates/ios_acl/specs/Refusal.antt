@@ -1,12 +1,10 @@
--- Why a word that nothing goes on with is refused (Cisco IOS command references: what is read, and what is not modelled).
-use Rattle.std.specs.Prelude.{◌&&◌, ◌||◌, not, ℕ, Bool, List, [], ◌∷◌, codes, slice_index, nat_le}
-use Rattle.std.specs.Bool.{if◌then◌else◌}
-use Rattle.std.specs.List.{list_any}
-use Rattle.std.specs.Str.{bytes_eq}
+-- Why a line of a list is refused at a word (Cisco IOS command references: what is read, and what is not modelled).
+use Rattle.std.specs.Prelude.{ℕ, Bool, List, [], ◌∷◌, Option, Some, None, codes, length}
 use Rattle.ios_lex.specs.declared.reason.IosReason.{IosReason}
 use Rattle.ios_lex.specs.declared.reason.IosReason.TheVariants as reason
-use Rattle.ios_acl.specs.Phrases.{Words}
-use Rattle.ios_acl.specs.Following.{Expected}
+use Rattle.ios_lex.specs.Phrases.{Words}
+use Rattle.ios_lex.specs.Following.{Expected}
+use Rattle.ios_lex.specs.Refusal.{reason_of, table_at}
 
 -- words that narrow what an entry matches in a way that is not modelled
 abbrev pub unmodelled : Words
@@ -16,29 +14,17 @@ unmodelled =
     ∷ codes "ack" ∷ codes "fin" ∷ codes "psh" ∷ codes "rst" ∷ codes "syn" ∷ codes "urg"
     ∷ codes "match-all" ∷ codes "match-any" ∷ []
 
-abbrev pub is_among : Words → List ℕ → Bool
-is_among words word = list_any (bytes_eq word) words
+-- words that are not modelled as the first of a line
+abbrev pub unmodelled_first : Words
+unmodelled_first = codes "evaluate" ∷ codes "dynamic" ∷ []
 
--- the digits are 48 to 57
-abbrev pub begins_with_digit : List ℕ → Bool
-begins_with_digit word = nat_le 48 (slice_index word 0) && nat_le (slice_index word 0) 57
+-- behind a number the first word is one as the others
+abbrev pub from_word : Option ℕ → ℕ
+from_word None = 1
+from_word (Some n) = 0
 
--- the reason why a word can't stand where that is expected: the first that fits. It may begin with a digit, and it may be
--- backward: the port of a range that would end before it begins
-abbrev pub due_reason : Expected → Bool → Bool → IosReason
-due_reason expected backward digit =
-    if backward then reason.BadNumber
-    else if expected.address && (not expected.whole || digit) then reason.BadAddress
-    else if expected.number && digit then reason.BadNumber
-    else if (expected.number && not expected.whole) || expected.message then reason.UnknownName
-    else reason.BadEntry
-
--- a word that is not modelled is that, whatever is expected
-abbrev pub reason_of : Expected → Bool → List ℕ → IosReason
-reason_of expected backward word =
-    if is_among unmodelled word then reason.Unmodelled word
-    else due_reason expected backward (begins_with_digit word)
-
--- the reason why this is no first word of a line
-abbrev pub first_reason : List ℕ → IosReason
-first_reason word = if is_among (codes "evaluate" ∷ codes "dynamic" ∷ []) word then reason.Unmodelled word else reason.BadEntry
+-- the reason of a word behind these, in a line of this number or of none. A range of ports that would end before it begins is a
+-- number that is none
+abbrev pub reason_at : Option ℕ → Words → Expected → Bool → List ℕ → IosReason
+reason_at number front expected backward word =
+    reason_of (table_at (from_word number) unmodelled_first unmodelled (length front)) reason.BadNumber expected backward word

@@ -1,13 +1,14 @@
--- How a list is written. Private calls are stated by it, and no public one.
+-- How a list is written: a line `ip access-list`, the kind and the name, and an indented line for each entry, its number first.
 use Rattle.std.specs.Prelude.{ℕ, ◌-◌, ◌^◌, ◌==◌, ◌&&◌, Bool, true, false, List, [], ◌∷◌, ◌++◌, Option, Some, None, codes}
 use Rattle.std.specs.Bool.{if◌then◌else◌}
 use Rattle.std.specs.Fmt.{decimal}
 use Rattle.ios_lex.specs.Address.{dotted}
+use Rattle.ios_lex.specs.Phrases.{Words}
 use Rattle.ios_acl.specs.declared.entry.Entry.{Entry}
 use Rattle.ios_acl.specs.declared.entry.Ports.{Ports}
 use Rattle.ios_acl.specs.declared.entry.Ports.TheVariants as ports
-use Rattle.ios_acl.specs.Phrases.{Words}
 use Rattle.ios_acl.specs.Grammar.{verdict_word}
+use Rattle.ios_acl.specs.List.{AccessList}
 use Rattle.ios_acl.specs.Block.{kind_word}
 
 abbrev pub place_words : ℕ × ℕ → Words
@@ -72,3 +73,12 @@ opening_line extended name = codes "ip" ++ (behind_blanks (codes "access-list" �
 
 unfoldable pub entry_line : Bool → Entry → List ℕ
 entry_line extended entry = behind_blanks (entry_words extended entry) ++ 10 ∷ []
+
+-- the lines of the entries, one after another
+abbrev pub entry_lines : Bool → List Entry → List ℕ
+entry_lines extended [] = []
+entry_lines extended (entry ∷ entries) = entry_line extended entry ++ entry_lines extended entries
+
+-- the bytes of a list as it is written
+unfoldable pub block_text : AccessList → List ℕ
+block_text list = opening_line list.extended list.name ++ entry_lines list.extended list.entries

@@ -19,6 +19,7 @@ const MOST_ENTRIES: usize = 5000;
 /// An access list.
 #[derive(Drop)]
 pub struct Acl {
+    alloc: Global,
     name: Word,
     extended: bool,
     entries: Vec<Entry>,
@@ -36,16 +37,17 @@ impl Model for Acl {
 
 impl Acl {
     ghost use Rattle.std.specs.Prelude.{◌≤◌, false, IfSome};
+    ghost use Rattle.ios_lex.specs.Phrases.{Words};
     ghost use Rattle.ios_acl.specs.Adding.{Adds, CannotAdd};
     ghost use Rattle.ios_acl.specs.Grammar.{IsEntry};
     ghost use Rattle.ios_acl.specs.List.{has_number, greatest_sequence, IsAccessList};
-    ghost use Rattle.ios_acl.specs.Phrases.{Words};
 
-    /// A list without entries, standard or extended.
+    /// A list without entries, standard or extended. It takes its memory from this allocator.
     pub fn new(alloc: Global, name: Word, extended: bool) -> Acl
         ensures { result ≡ record { name = name; extended = extended; entries = [] } }
     {
         Acl {
+            alloc,
             name,
             extended,
             entries: Vec::new(alloc),
@@ -53,13 +55,14 @@ impl Acl {
     }
 
     /// The same list once more.
-    pub fn copy(&self, alloc: Global) -> Result<Acl, AllocError>
+    pub fn copy(&self) -> Result<Acl, AllocError>
         ensures { IfOk result (λ acl. acl ≡ self.now) }
     {
         Ok(Acl {
-            name: self.name.copy(alloc)?,
+            alloc: self.alloc,
+            name: self.name.copy(self.alloc)?,
             extended: self.extended,
-            entries: Vec::from_slice(alloc, self.entries.as_slice())?,
+            entries: Vec::from_slice(self.alloc, self.entries.as_slice())?,
         })
     }
 
@@ -94,7 +97,7 @@ impl Acl {
 
     /// Adds the entry that the words of a line of a list block spell, or those behind `access-list N`. A remark adds
     /// none. An entry without a number gets the greatest so far plus 10.
-    pub fn read_line(&mut self, alloc: Global, words: &[Word]) -> Result<(), AclFault>
+    pub fn read_line(&mut self, words: &[Word]) -> Result<(), AclFault>
         ensures read { OnOk result (Reads self.old words.now self.new) }
         ensures unchanged { OnErr result (self.new ≡ self.old) }
         ensures refused { IfErr result (IsFault self.old words.now) }
@@ -105,7 +108,7 @@ impl Acl {
         }
         let line = match sentence(rest, self.extended) {
             Ok(line) => line,
-            Err(stop) => return Err(fault_of(alloc, number, rest, stop)),
+            Err(stop) => return Err(fault_of(self.alloc, number, rest, stop)),
         };
         match line {
             Some(entry) => self.add(entry, number),

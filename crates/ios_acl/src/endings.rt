@@ -5,8 +5,7 @@ ghost use Rattle.ios_acl.specs.Parts.{IsCodeEnd, IsConnectionEnd, IsEnd, IsMessa
 
 use crate::entry::Ports;
 use crate::port_tests::ports;
-use crate::stop::{Due, Stop, stop_before};
-use ios_lex::{Word, icmp, number};
+use ios_lex::{Due, Stop, Word, icmp, number, stop_before};
 
 /// The words are at their end, but for a word on logging: `log`, and in an extended list `log-input`.
 pub fn end(words: &[Word], extended: bool) -> Result<(), Stop>
@@ -59,7 +58,7 @@ fn message_end(words: &[Word]) -> Result<Option<(u8, Option<u8>)>, Stop>
         return Ok(Some((kind as u8, code)));
     }
     let Some(message) = icmp(first.bytes()) else {
-        return Err(stop_before(words, Due::Message));
+        return Err(stop_before(words, Due::NameOrEnd));
     };
     end(rest, true)?;
     Ok(Some(message))
@@ -78,7 +77,7 @@ fn code_end(words: &[Word]) -> Result<Option<u8>, Stop>
         return Ok(None);
     };
     let Some(code) = number(first.bytes(), 255) else {
-        return Err(stop_before(words, Due::Code));
+        return Err(stop_before(words, Due::NumberOrEnd));
     };
     end(rest, true)?;
     Ok(Some(code as u8))

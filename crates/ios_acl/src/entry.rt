@@ -1,7 +1,9 @@
 ghost use Rattle.std.specs.Prelude.{◌≡◌};
-ghost use Rattle.ios_acl.specs.Matching.{matches, matches_code, matches_established, matches_icmp, matches_port, matches_protocol, matches_wildcard};
+ghost use Rattle.bit_patterns.specs.Patterns.{agrees as agrees_lem};
+ghost use Rattle.ios_acl.specs.Matching.{matches, matches_code, matches_established, matches_icmp, matches_port, matches_protocol};
 
 use crate::packet::Packet;
+use bit_patterns::agrees;
 
 /// What an entry does with the packets that it matches.
 #[derive(Clone, Copy, Debug, PartialEq, Eq)]
@@ -45,8 +47,8 @@ impl Entry {
         ensures { result ≡ matches self.now packet.now }
     {
         is_protocol(packet.proto, self.proto)
-            && is_under(packet.src, self.src.0, self.src.1)
-            && is_under(packet.dst, self.dst.0, self.dst.1)
+            && is_under(packet.src, self.src)
+            && is_under(packet.dst, self.dst)
             && self.sport.has(packet.sport)
             && self.dport.has(packet.dport)
             && is_icmp(packet.icmp_type, packet.icmp_code, self.icmp)
@@ -68,10 +70,15 @@ impl Ports {
     }
 }
 
-fn is_under(x: u32, address: u32, wildcard: u32) -> bool
-    ensures { result ≡ matches_wildcard x address wildcard }
+/// Whether the address agrees with that of the place on the bits that are 0 in its wildcard.
+fn is_under(address: u32, place: (u32, u32)) -> bool
+    ensures { result ≡ agrees_lem address place.0 place.1 }
 {
-    (x ^ address) | wildcard == wildcard
+    agrees(
+        u128::from(address),
+        u128::from(place.0),
+        u128::from(place.1),
+    )
 }
 
 fn is_protocol(protocol: u8, wanted: Option<u8>) -> bool

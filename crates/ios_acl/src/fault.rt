@@ -1,14 +1,12 @@
-ghost use Rattle.std.specs.Prelude.{◌≡◌, ◌≤◌, length};
-ghost use Rattle.std.specs.List.{list_any};
-ghost use Rattle.std.specs.Str.{bytes_eq};
-ghost use Rattle.ios_lex.specs.declared.reason.IosReason.TheVariants as reason_of;
+ghost use Rattle.std.specs.Prelude.{◌≡◌, ◌≤◌, length, IfOk, IfErr};
+ghost use Rattle.ios_lex.specs.Refusal.{is_among as is_among_lem};
+ghost use Rattle.ios_lex.specs.declared.reason.IosReason.TheVariants as reasons;
+ghost use Rattle.ios_acl.specs.declared.fault.AclFault.TheVariants as fault_named;
 ghost use Rattle.ios_acl.specs.Faults.{IsFor, stop_reason};
 ghost use Rattle.ios_acl.specs.Refusal as specs;
-ghost use Rattle.ios_acl.specs.Stops.{expected_of, is_backward};
 
-use crate::stop::{Due, Stop, begins_with_digit};
-use ios_lex::{IosReason, Word};
-use std::alloc::Global;
+use ios_lex::{IosReason, Stop, Word, is_among, reason_of, table_at};
+use std::alloc::{AllocError, Global};
 
 /// Why a line is not read into a list.
 #[derive(Debug, Drop)]
@@ -39,6 +37,9 @@ const UNMODELLED: [&str; 18] = [
     "match-any",
 ];
 
+/// The words that are not modelled as the first of a line.
+const UNMODELLED_FIRST: [&str; 2] = ["evaluate", "dynamic"];
+
 /// The fault of a stop in the words behind the number of a line.
 pub fn fault_of(alloc: Global, number: Option<u32>, words: &[Word], stop: Stop) -> AclFault
     requires { stop.left ≤ length words.now }
@@ -48,74 +49,38 @@ pub fn fault_of(alloc: Global, number: Option<u32>, words: &[Word], stop: Stop) 
         return AclFault::Refused(IosReason::BadEntry);
     }
     let place = words.len() - stop.left;
-    if place == 0 && number.is_none() {
-        first_fault(alloc, &words[place])
-    } else {
-        fault_at(alloc, &words[place], stop.due)
-    }
+    let table = table_at(from_word(number), &UNMODELLED_FIRST, &UNMODELLED, place);
+    fault(reason_of(alloc, &words[place], table, stop.due, IosReason::BadNumber))
 }
 
-/// The fault of a word that is no first word of a line.
-fn first_fault(alloc: Global, word: &Word) -> AclFault
-    ensures { IsFor (specs.first_reason word.now) result }
+/// The place from which on words of a line of this number, or of none, are refused as all others are.
+fn from_word(number: Option<u32>) -> usize
+    ensures { result ≡ specs.from_word number }
 {
-    if word.is("evaluate") || word.is("dynamic") {
-        unmodelled(alloc, word)
-    } else {
-        AclFault::Refused(IosReason::BadEntry)
-    }
+    if number.is_some() { 0 } else { 1 }
 }
 
-/// The fault of a word where something else is due.
-fn fault_at(alloc: Global, word: &Word, due: Due) -> AclFault
-    ensures { IsFor (specs.reason_of (expected_of due) (is_backward due) word.now) result }
+/// The fault of this reason, or that memory is wanting.
+fn fault(reason: Result<IosReason, AllocError>) -> AclFault
+    ensures refused { IfOk reason (λ why. result ≡ fault_named.Refused why) }
+    ensures memory { IfErr reason (λ _. result ≡ fault_named.NoMemory) }
 {
-    if is_unmodelled(word) {
-        unmodelled(alloc, word)
-    } else {
-        AclFault::Refused(reason(due, begins_with_digit(word)))
+    match reason {
+        Ok(why) => AclFault::Refused(why),
+        Err(_) => AclFault::NoMemory,
     }
 }
 
 /// Whether the word narrows what an entry matches in a way that is not modelled.
 pub fn is_unmodelled(word: &Word) -> bool
-    ensures { result ≡ specs.is_among specs.unmodelled word.now }
+    ensures { result ≡ is_among_lem specs.unmodelled word.now }
 {
     is_among(word, &UNMODELLED)
 }
 
-/// Whether the word is one of these texts.
-fn is_among(word: &Word, texts: &[&str]) -> bool
-    ensures { result ≡ list_any (λ text. bytes_eq word.now text.now) texts.now }
-{
-    for text in texts {
-        if word.is(text) {
-            return true;
-        }
-    }
-    false
-}
-
 /// The fault of a word that stands for more than is modelled.
 pub fn unmodelled(alloc: Global, word: &Word) -> AclFault
-    ensures { IsFor (reason_of.Unmodelled word.now) result }
+    ensures { IsFor (reasons.Unmodelled word.now) result }
 {
-    match word.copy(alloc) {
-        Ok(word) => AclFault::Refused(IosReason::Unmodelled(word)),
-        Err(_) => AclFault::NoMemory,
-    }
-}
-
-/// The reason why a word that may begin with a digit can't stand where something else is due.
-fn reason(due: Due, digit: bool) -> IosReason
-    ensures { result ≡ specs.due_reason (expected_of due) (is_backward due) digit }
-{
-    match due {
-        Due::Order => IosReason::BadNumber,
-        Due::Address => IosReason::BadAddress,
-        Due::Wildcard if digit => IosReason::BadAddress,
-        Due::Number | Due::Message | Due::Code if digit => IosReason::BadNumber,
-        Due::Number | Due::Message => IosReason::UnknownName,
-        Due::Wildcard | Due::Code | Due::Verdict | Due::Nothing => IosReason::BadEntry,
-    }
+    fault(ios_lex::unmodelled(alloc, word))
 }

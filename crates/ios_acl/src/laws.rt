@@ -1,9 +1,9 @@
 ghost use Rattle.std.specs.Prelude.{◌≡◌, ◌⊎◌, ◌↔◌, ℕ, true, IsTrue};
 ghost use Rattle.std.specs.Int.{bit_at};
 ghost use Rattle.ios_lex.specs.declared.reason.IosReason.{IosReason};
+ghost use Rattle.ios_lex.specs.Phrases.{Words};
 ghost use Rattle.ios_acl.specs.List.{AccessList};
-ghost use Rattle.ios_acl.specs.Matching.{matches_established, matches_wildcard};
-ghost use Rattle.ios_acl.specs.Phrases.{Words};
+ghost use Rattle.ios_acl.specs.Matching.{matches_established};
 ghost use Rattle.ios_acl.specs.Reading.{IsRefused, Reads};
 
 /// The words of a line give one list or are refused for one reason: not both, and not neither.
@@ -12,12 +12,6 @@ pub fn one_reading()
     ensures not_neither { (list : AccessList) (words : Words) → ((new : AccessList) → Reads list words new → ⊥) → ((why : IosReason) → IsRefused list words why → ⊥) → ⊥ }
     ensures same_list { (list new other : AccessList) (words : Words) → Reads list words new → Reads list words other → new ≡ other }
     ensures same_reason { (list : AccessList) (words : Words) (why other : IosReason) → IsRefused list words why → IsRefused list words other → why ≡ other }
-{}
-
-/// An address and a wildcard match the numbers that have the bits of the address wherever the wildcard's bit is 0.
-pub fn wildcard_bits()
-    ensures { (x address wildcard : ℕ) → IsTrue (matches_wildcard x address wildcard)
-        ↔ ((place : ℕ) → bit_at wildcard place ≡ 0 → bit_at x place ≡ bit_at address place) }
 {}
 
 /// A segment is of an established connection where RST is set, the bit of 4, or ACK, that of 16.

@@ -11,23 +11,17 @@ mod endings;
 mod entry;
 mod fault;
 mod laws;
-mod list_names;
 mod numbers;
 mod packet;
 mod places;
 mod port_tests;
 mod spelled;
-mod stop;
 mod written;
 
 pub use access_list::Acl;
 pub use entry::{Entry, Ports, Verdict};
 pub use fault::{AclFault, is_unmodelled, unmodelled};
-pub use laws::{established_bits, one_reading, wildcard_bits};
-pub use list_names::{is_foreign, is_name, is_number_of, kind_of, list_number};
+pub use laws::{established_bits, one_reading};
 pub use packet::Packet;
 pub use std::alloc::AllocError as NoMemory;
 pub use written::{is_block_name, write_acl};
-
-#[cfg(test)]
-mod tests;

@@ -1,11 +1,11 @@
 ghost use Rattle.std.specs.Prelude.{◌≡◌, false, IfOk, IfErr};
+ghost use Rattle.ios_lex.specs.Stops.{BeginsWith, expected_of};
 ghost use Rattle.ios_acl.specs.Grammar.{IsPlace};
-ghost use Rattle.ios_acl.specs.Stops.{BeginsWith, expected_of, IsStop};
+ghost use Rattle.ios_acl.specs.Stops.{IsStop};
 ghost use Rattle.ios_acl.specs.Parts.{IsAddressOf, IsSourceEnd, IsWildcardEnd, SomeAddress, SomePlace, SomeSourceEnd, SomeWildcardEnd};
 
 use crate::endings::end;
-use crate::stop::{Due, Stop, stop_before};
-use ios_lex::{Word, address};
+use ios_lex::{Due, Stop, Word, address, stop_before};
 
 /// The address that the words begin with, and the words behind it.
 fn address_next(words: &[Word]) -> Result<(u32, &[Word]), Stop>
@@ -83,7 +83,7 @@ fn wildcard_end(words: &[Word]) -> Result<u32, Stop>
         return Ok(0);
     }
     let Some(wildcard) = address(first.bytes()) else {
-        return Err(stop_before(words, Due::Wildcard));
+        return Err(stop_before(words, Due::AddressOrEnd));
     };
     end(rest, false)?;
     Ok(wildcard)

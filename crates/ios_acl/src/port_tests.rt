@@ -1,13 +1,13 @@
 ghost use Rattle.std.specs.Prelude.{◌≡◌, ◌⊎◌, ◌<◌, ◌≤◌, ◌∷◌, true, false, length, IsTrue, IfOk, IfErr};
-ghost use Rattle.ios_acl.specs.Refusal.{is_among};
+ghost use Rattle.ios_lex.specs.Refusal.{is_among};
+ghost use Rattle.ios_lex.specs.Stops.{BeginsWith, expected_of, LacksFirst};
 ghost use Rattle.ios_acl.specs.declared.entry.Ports.TheVariants as ports_of;
 ghost use Rattle.ios_acl.specs.Grammar.{ArePorts, ports_above, ports_below};
-ghost use Rattle.ios_acl.specs.Stops.{BeginsWith, expected_of, IsStop, LacksFirst};
+ghost use Rattle.ios_acl.specs.Stops.{IsStop};
 ghost use Rattle.ios_acl.specs.Parts.{IsPortOf, port_words, SomePort, SomePortFrom, SomePorts};
 
 use crate::entry::Ports;
-use crate::stop::{Due, Stop, stop_before};
-use ios_lex::{Word, port};
+use ios_lex::{Due, Stop, Word, port, stop_before};
 
 /// The port that the words begin with, and the words behind it.
 fn port_next(words: &[Word], tcp: bool) -> Result<(u16, &[Word]), Stop>

@@ -1,15 +1,15 @@
 ghost use Rattle.std.specs.Prelude.{◌≡◌, ◌<◌, true, false, length, IfOk, IfErr, IfSome, IfNone};
+ghost use Rattle.ios_lex.specs.Stops.{BeginsWith, expected_of, LacksFirst};
 ghost use Rattle.ios_acl.specs.Grammar.{ArePortsOf, IsExtended, IsProto, IsSentence, IsStandard, verdict_word};
 ghost use Rattle.ios_acl.specs.Reading.{Sentence};
-ghost use Rattle.ios_acl.specs.Stops.{BeginsWith, expected_of, IsStop, LacksFirst};
+ghost use Rattle.ios_acl.specs.Stops.{IsStop};
 ghost use Rattle.ios_acl.specs.Parts.{SomeExtended, SomePortsOf, SomeProto, SomeSourceEnd};
 
 use crate::endings::options;
 use crate::entry::{Entry, Ports, Verdict};
 use crate::places::{place, source_end};
 use crate::port_tests::ports;
-use crate::stop::{Due, Stop, stop_before};
-use ios_lex::{Word, protocol};
+use ios_lex::{Due, Stop, Word, protocol, stop_before};
 
 /// The verdict that the word is.
 pub fn verdict_of(word: &Word) -> Option<Verdict>
@@ -106,13 +106,13 @@ pub fn sentence(words: &[Word], extended: bool) -> Result<Option<Entry>, Stop>
     ensures stop { IfErr result (IsStop (Sentence extended) words.now) }
 {
     let Some((first, rest)) = words.split_first() else {
-        return Err(stop_before(words, Due::Verdict));
+        return Err(stop_before(words, Due::Keyword));
     };
     if first.is("remark") {
         return Ok(None);
     }
     let Some(verdict) = verdict_of(first) else {
-        return Err(stop_before(words, Due::Verdict));
+        return Err(stop_before(words, Due::Keyword));
     };
     let entry = if extended {
         extended_entry(rest, verdict)?

@@ -4,12 +4,11 @@ ghost use Rattle.ios_lex.specs.Address.{dotted};
 ghost use Rattle.ios_acl.specs.Block as specs;
 ghost use Rattle.ios_acl.specs.Grammar as grammar;
 ghost use Rattle.ios_acl.specs.Block.{IsBlock, IsBlockName};
-ghost use Rattle.ios_acl.specs.Spelling.{behind_blanks, entry_line, established_words, match_words, message_words, opening_line, place_words, ports_words, proto_word, range_words};
+ghost use Rattle.ios_acl.specs.Spelling.{behind_blanks, block_text, entry_line, established_words, match_words, message_words, opening_line, place_words, ports_words, proto_word, range_words};
 
 use crate::access_list::Acl;
 use crate::entry::{Entry, Ports, Verdict};
-use crate::list_names::{is_name, is_number_of};
-use ios_lex::Dotted;
+use ios_lex::{Dotted, is_name, is_number_of};
 use std::alloc::{AllocError, Global};
 
 /// Writes the list as a named block of a configuration, which is read as this list: a line `ip access-list`, the kind
@@ -17,6 +16,7 @@ use std::alloc::{AllocError, Global};
 pub fn write_acl(alloc: Global, acl: &Acl) -> Result<Vec<u8>, AllocError>
     requires name { IsBlockName acl.now.extended acl.now.name }
     ensures block { IfOk result (λ text. IsBlock text.items acl.now) }
+    ensures text { IfOk result (λ text. text.items ≡ block_text acl.now) }
 {
     let mut text = Vec::new(alloc);
     let extended = acl.is_extended();
@@ -208,81 +208,4 @@ fn push_word(text: &mut Vec<u8>, word: &[u8]) -> Result<(), AllocError>
 {
     text.push(b' ')?;
     text.extend_from_slice(word)
-}
-
-#[cfg(test)]
-mod tests {
-    use super::*;
-    use ios_lex::{Word, lines};
-    use std::test::Fail;
-
-    /// The list whose entries the indented lines of the text spell.
-    fn list_of(alloc: Global, name: &[u8], extended: bool, text: &[u8]) -> Result<Acl, Fail> {
-        let mut list = Acl::new(alloc, Word::of(alloc, name)?, extended);
-        let lines = lines(alloc, text)?;
-        for line in &lines {
-            if line.indented {
-                list.read_line(alloc, line.words.as_slice())?;
-            }
-        }
-        Ok(list)
-    }
-
-    const GIVEN: &str = "ip access-list extended EDGE
- permit tcp 10.0.0.1 0.0.0.0 any eq www log
- remark the rest of the site
- deny udp 0.0.0.0 255.255.255.255 lt 0 10.20.0.0 0.0.255.255 gt 1023
- 15 permit icmp any any port-unreachable
- permit 6 any neq 22 host 10.0.0.255 range 20 21 established
- permit icmp any any echo
- deny gre any any
- deny ip any any
-";
-
-    const WRITTEN: &str = "ip access-list extended EDGE
- 10 permit tcp host 10.0.0.1 any eq 80
- 15 permit icmp any any 3 3
- 20 deny udp any lt 0 10.20.0.0 0.0.255.255 range 1024 65535
- 30 permit tcp any neq 22 host 10.0.0.255 range 20 21 established
- 40 permit icmp any any 8
- 50 deny 47 any any
- 60 deny ip any any
-";
-
-    #[test]
-    fn extended_list(rt: HostRuntime) -> Result<(), Fail> {
-        let alloc = rt.alloc();
-        let list = list_of(alloc, b"EDGE", true, GIVEN.as_bytes())?;
-        assert!(rt; is_block_name(list.name().bytes(), list.is_extended()));
-        let text = write_acl(alloc, &list)?;
-        assert_eq!(rt; text.as_slice(), WRITTEN.as_bytes());
-        let again = list_of(alloc, b"EDGE", true, text.as_slice())?;
-        assert!(rt; again.entries() == list.entries());
-        Ok(())
-    }
-
-    #[test]
-    fn standard_list(rt: HostRuntime) -> Result<(), Fail> {
-        let alloc = rt.alloc();
-        let given = b" permit 10.0.0.1\n deny 10.0.0.0 0.0.0.255\n permit any\n";
-        let list = list_of(alloc, b"1300", false, given)?;
-        assert!(rt; is_block_name(list.name().bytes(), list.is_extended()));
-        let text = write_acl(alloc, &list)?;
-        let written =
-            b"ip access-list standard 1300\n 10 permit host 10.0.0.1\n 20 deny 10.0.0.0 0.0.0.255\n 30 permit any\n";
-        assert_eq!(rt; text.as_slice(), written.as_slice());
-        let again = list_of(alloc, b"1300", false, text.as_slice())?;
-        assert!(rt; again.entries() == list.entries());
-        Ok(())
-    }
-
-    #[test]
-    fn block_names(rt: HostRuntime) {
-        assert!(rt; is_block_name(b"100", true));
-        assert!(rt; !is_block_name(b"100", false));
-        assert!(rt; !is_block_name(b"0099", true));
-        assert!(rt; is_block_name(b"2700", false));
-        assert!(rt; !is_block_name(b"two words", true));
-        assert!(rt; !is_block_name(b"", true));
-    }
 }

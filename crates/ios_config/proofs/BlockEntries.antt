@@ -1,15 +1,15 @@
 -- Lines of the block that is open.
 use Rattle.std.proofs.Common.{◌≡◌, ℕ, ◌<◌, Bool, true, List, Option, Some, None, slice_get, set, length, get_or, refl, sym, ap, ◌∙◌}
 use Rattle.std.specs.Str.{bytes_eq}
-use Rattle.std.proofs.lemmas.List.{get_or-set_same}
+use Rattle.std.proofs.lemmas.List.{get_or-set_same, length-set}
 use Rattle.std.proofs.lemmas.List.Folds.{position_or_len-set}
-use Rattle.std.proofs.lemmas.List.{length-set}
 use Rattle.std.proofs.lemmas.Option.{slice_get-get_or, slice_get_within, get_or_from_slice_get}
 use Rattle.ios_lex.specs.Lines.{Reading}
+use Rattle.ios_lex.specs.Phrases.{Words}
 use Rattle.ios_acl.specs.declared.fault.AclFault.{AclFault}
 use Rattle.ios_acl.specs.declared.fault.AclFault.TheVariants as acl
 use Rattle.ios_acl.specs.List.{AccessList}
-use Rattle.ios_acl.specs.Phrases.{Words}
+use Rattle.ios_acl.specs.Block.{IsWithinBlock}
 use Rattle.ios_acl.specs.Faults.{IsFault}
 use Rattle.ios_acl.specs.Reading.{Reads}
 use Rattle.ios_acl.specs.Reading as reading
@@ -75,7 +75,7 @@ block_list lists place first =
     }
 
 pub entry_taken : (lists new_lists : List AccessList) (place ignored : ℕ) (words : Words) (line : Reading) → IsFirstOfName lists place → ReadsAt lists place words new_lists
-    → line.indented ≡ true → line.words ≡ words → Takes (draft_at lists (Some place) ignored) line (draft_at new_lists (Some place) ignored)
+    → IsWithinBlock line → line.words ≡ words → Takes (draft_at lists (Some place) ignored) line (draft_at new_lists (Some place) ignored)
 entry_taken lists new_lists place ignored words line first reads indented are =
     let of = block_list lists place first in
     let list : reads.old_list ≡ first.list = cc (first.there, reads.there) in
@@ -87,13 +87,13 @@ entry_taken lists new_lists place ignored words line first reads indented are =
     (line_of.entry first.list.name first.list.extended reads.new_list indented of.block of.kind (rw (of.named first.list.extended, are) (rw list at reads.reads)))
 
 pub entry_refused : (lists : List AccessList) (place ignored number : ℕ) (words : Words) (line : Reading) (fault : AclFault) → IsFirstOfName lists place → FailsAt lists place words fault
-    → line.indented ≡ true → line.words ≡ words → number ≡ line.number → IsLineFault (draft_at lists (Some place) ignored) line (located number fault)
+    → IsWithinBlock line → line.words ≡ words → number ≡ line.number → IsLineFault (draft_at lists (Some place) ignored) line (located number fault)
 entry_refused lists place ignored number words line (acl.Refused why) first fails indented are is =
     let of = block_list lists place first in
     (is, line_of.entry first.list.name first.list.extended why indented of.block of.kind (rw (of.named first.list.extended, are) (fails first.list first.there)))
 entry_refused lists place ignored number words line acl.NoMemory first fails indented are is = tt
 
-pub no_block : (lists : List AccessList) (block : Option ℕ) (ignored number : ℕ) (line : Reading) → block ≡ None → line.indented ≡ true → number ≡ line.number
+pub no_block : (lists : List AccessList) (block : Option ℕ) (ignored number : ℕ) (line : Reading) → block ≡ None → IsWithinBlock line → number ≡ line.number
     → IsLineFault (draft_at lists block ignored) line (not_built number)
 no_block lists block ignored number line none indented is = (is, line_of.no_block indented (ap (block_name lists) none))
 

@@ -4,10 +4,10 @@ use Rattle.std.proofs.lemmas.Bool.Decides.{nat_tests}
 use Rattle.std.proofs.lemmas.List.{set-get_or, nil_from_length}
 use Rattle.std.proofs.lemmas.Option.{get_or_from_slice_get}
 use Rattle.ios_lex.specs.declared.reason.IosReason.TheVariants as ios
+use Rattle.ios_lex.specs.ListNames.{FitsName}
+use Rattle.ios_lex.specs.Phrases.{Words}
 use Rattle.ios_acl.specs.Block.{kind_word}
 use Rattle.ios_acl.specs.List.{AccessList}
-use Rattle.ios_acl.specs.ListNames.{FitsName}
-use Rattle.ios_acl.specs.Phrases.{Words}
 use Rattle.ios_config.specs.Router.{Draft, list_named, with_list}
 use Rattle.ios_config.specs.Line.{Takes, FitsLists, IsBlockRefused}
 use Rattle.ios_config.specs.Line as line_of

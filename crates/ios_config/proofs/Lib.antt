@@ -6,9 +6,11 @@ pub mod Heads
 pub mod Lines
 pub mod RawFronts
 pub mod Drafts
+pub mod DifferentNames
 pub mod OpenBanners
 pub mod Refusals
 pub mod LineOutcomes
 pub mod OneLine
 pub mod OneConfig
 pub mod SomeReading
+pub mod OneBlock

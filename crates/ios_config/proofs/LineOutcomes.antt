@@ -3,16 +3,17 @@ use Rattle.std.proofs.Common.{◌≡◌, ℕ, Bool, true, false, not, List, [], 
 use Rattle.ios_lex.specs.declared.reason.IosReason.{IosReason}
 use Rattle.ios_lex.specs.declared.reason.IosReason.TheVariants as ios
 use Rattle.ios_lex.specs.Lines.{Reading}
-use Rattle.ios_acl.specs.Block.{kind_word}
+use Rattle.ios_lex.specs.Phrases.{Words}
+use Rattle.ios_lex.specs.Refusal.{is_among}
+use Rattle.ios_lex.specs.ListNames.{IsListNumber, has_kind, is_standard, is_extended, is_foreign, is_name, FitsName}
+use Rattle.ios_acl.specs.Block.{kind_word, IsWithinBlock}
 use Rattle.ios_acl.specs.List.{AccessList}
-use Rattle.ios_acl.specs.Phrases.{Words}
 use Rattle.ios_acl.specs.Reading as list
-use Rattle.ios_acl.specs.Refusal.{is_among, unmodelled}
-use Rattle.ios_acl.specs.ListNames.{IsListNumber, has_kind, is_standard, is_extended, is_foreign, is_name, FitsName}
+use Rattle.ios_acl.specs.Refusal.{unmodelled}
 use Rattle.ios_config.specs.declared.fault.ConfigReason.{ConfigReason}
 use Rattle.ios_config.specs.declared.fault.ConfigReason.TheVariants as reason
 use Rattle.ios_config.specs.Router.{Draft, list_named, growing, ignoring, kind_named}
-use Rattle.ios_config.specs.Line.{rule_words, FitsLists}
+use Rattle.ios_config.specs.Line.{rule_words, FitsLists, IsCommand}
 
 -- the draft behind a line that is taken, or the reason for which it is not
 abbrev pub Outcome : Type 0
@@ -91,5 +92,6 @@ pub data InsideOutcome (draft : Draft) (words : Words) : Result Draft ConfigReas
   no_block : draft.block ≡ None → InsideOutcome draft words (Err reason.NotBuilt)
 
 pub data LineOutcome (draft : Draft) (line : Reading) (outcome : Result Draft ConfigReason) : Type 0 where
-  outside : line.indented ≡ false → OutsideOutcome draft line.words outcome → LineOutcome draft line outcome
-  inside : line.indented ≡ true → InsideOutcome draft line.words outcome → LineOutcome draft line outcome
+  banner : line.banner ≡ true → outcome ≡ Err reason.NotBuilt → LineOutcome draft line outcome
+  outside : IsCommand line → OutsideOutcome draft line.words outcome → LineOutcome draft line outcome
+  inside : IsWithinBlock line → InsideOutcome draft line.words outcome → LineOutcome draft line outcome

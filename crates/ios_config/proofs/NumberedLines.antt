@@ -2,12 +2,12 @@
 use Rattle.std.proofs.Common.{◌≡◌, ℕ, Bool, true, false, List, [], ◌∷◌, None, codes, ap, ◌∙◌}
 use Rattle.ios_lex.specs.declared.reason.IosReason.{IosReason}
 use Rattle.ios_lex.specs.declared.reason.IosReason.TheVariants as ios
+use Rattle.ios_lex.specs.Phrases.{Words}
+use Rattle.ios_lex.specs.ListNames.{IsListNumber, has_kind, is_standard, is_extended, is_foreign}
 use Rattle.ios_acl.specs.declared.fault.AclFault.{AclFault}
 use Rattle.ios_acl.specs.declared.fault.AclFault.TheVariants as acl
 use Rattle.ios_acl.specs.List.{AccessList}
-use Rattle.ios_acl.specs.Phrases.{Words}
 use Rattle.ios_acl.specs.Faults.{IsFault}
-use Rattle.ios_acl.specs.ListNames.{IsListNumber, has_kind, is_standard, is_extended, is_foreign}
 use Rattle.ios_config.specs.Router.{Draft, list_named, ignoring}
 use Rattle.ios_config.specs.Line.{Takes, FitsLists, IsNumberedRefused}
 use Rattle.ios_config.specs.Line as line_of
@@ -33,7 +33,7 @@ pub rule_taken : (draft : Draft) (name : List ℕ) (extended : Bool) (rule words
 rule_taken draft name extended rule words lists ours whole begins adds line unindented are =
     rw adds.put
     (line_of.numbered name extended begins.first begins.rest adds.new_list
-    (record { outside = unindented; words = are ∙ ap (λ more. codes "access-list" ∷ more) (whole ∙ ap (λ more. name ∷ more) begins.whole); n = ours.n; number = ours.number; kind = ours.kind })
+    (record { command = unindented; words = are ∙ ap (λ more. codes "access-list" ∷ more) (whole ∙ ap (λ more. name ∷ more) begins.whole); n = ours.n; number = ours.number; kind = ours.kind })
     ours.fits begins.among (rw begins.whole at adds.reads))
 
 no_rule_refused : (draft : Draft) (name : List ℕ) (extended : Bool) (rule : Words) (why : IosReason) → IsOurs draft name extended → IsNoRule rule why → IsNumberedRefused draft (name ∷ rule) why

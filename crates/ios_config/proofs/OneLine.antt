@@ -5,14 +5,15 @@ use Rattle.std.proofs.lemmas.Bool.Decides.{nat_tests}
 use Rattle.ios_lex.specs.declared.reason.IosReason.{IosReason}
 use Rattle.ios_lex.specs.declared.reason.IosReason.TheVariants as ios
 use Rattle.ios_lex.specs.Lines.{Reading}
+use Rattle.ios_lex.specs.Phrases.{Words}
+use Rattle.ios_lex.specs.Refusal.{is_among}
+use Rattle.ios_lex.specs.ListNames.{has_kind, is_standard, is_extended, is_foreign}
 use Rattle.ios_lex.proofs.DecimalTexts.{decimal_is_one}
+use Rattle.ios_lex.proofs.Among.{among_cases}
 use Rattle.ios_acl.specs.Block.{kind_word}
 use Rattle.ios_acl.specs.List.{AccessList}
-use Rattle.ios_acl.specs.Phrases.{Words}
-use Rattle.ios_acl.specs.Refusal.{is_among, unmodelled}
-use Rattle.ios_acl.specs.ListNames.{has_kind, is_standard, is_extended, is_foreign}
+use Rattle.ios_acl.specs.Refusal.{unmodelled}
 use Rattle.ios_acl.proofs.OneReading.{no_refused_reading, lists_are_one, reasons_are_one}
-use Rattle.ios_acl.proofs.PortWords.{among_cases}
 use Rattle.ios_config.specs.declared.fault.ConfigReason.{ConfigReason}
 use Rattle.ios_config.specs.Router.{Draft, growing, ignoring}
 use Rattle.ios_config.specs.Line.{rule_words, Takes, IsNumberedRefused, IsBlockRefused, IsLineRefused}
@@ -160,14 +161,19 @@ inside_is_one draft words o p (InsideOutcome.no_block none) (InsideOutcome.no_bl
 
 pub line_is_one : (draft : Draft) (line : Reading) (o p : Result Draft ConfigReason) → LineOutcome draft line o → LineOutcome draft line p → o ≡ p
 line_is_one draft line o p (LineOutcome.outside unindented comes) (LineOutcome.outside unindented' comes') = outside_is_one draft line.words o p comes comes'
-line_is_one draft line o p (LineOutcome.outside unindented comes) (LineOutcome.inside indented comes') = absurd (not_true_and_false _ indented unindented)
-line_is_one draft line o p (LineOutcome.inside indented comes) (LineOutcome.outside unindented comes') = absurd (not_true_and_false _ indented unindented)
+line_is_one draft line o p (LineOutcome.outside unindented comes) (LineOutcome.inside indented comes') = absurd (not_true_and_false _ indented.indented unindented.unindented)
+line_is_one draft line o p (LineOutcome.outside command comes) (LineOutcome.banner banner is) = absurd (not_true_and_false _ banner command.outside)
+line_is_one draft line o p (LineOutcome.inside indented comes) (LineOutcome.outside unindented comes') = absurd (not_true_and_false _ indented.indented unindented.unindented)
 line_is_one draft line o p (LineOutcome.inside indented comes) (LineOutcome.inside indented' comes') = inside_is_one draft line.words o p comes comes'
+line_is_one draft line o p (LineOutcome.inside within comes) (LineOutcome.banner banner is) = absurd (not_true_and_false _ banner within.outside)
+line_is_one draft line o p (LineOutcome.banner banner is) (LineOutcome.outside command comes) = absurd (not_true_and_false _ banner command.outside)
+line_is_one draft line o p (LineOutcome.banner banner is) (LineOutcome.inside within comes) = absurd (not_true_and_false _ banner within.outside)
+line_is_one draft line o p (LineOutcome.banner banner is) (LineOutcome.banner banner' is') = is ∙ sym is'
 
 -- what a line that is taken comes to
 taken_outcome : (draft new : Draft) (line : Reading) → Takes draft line new → LineOutcome draft line (Ok new)
 taken_outcome draft new line (Takes.numbered name extended first rest list is fits among reads) =
-    LineOutcome.outside is.outside
+    LineOutcome.outside is.command
     (OutsideOutcome.numbered (name ∷ first ∷ rest) (Ok (growing draft list None)) is.words
     (NumberedOutcome.number name (first ∷ rest) is.n (Ok (growing draft list None)) is.number
     (NumberOutcome.kind extended (Ok (growing draft list None)) is.kind
@@ -229,6 +235,7 @@ refused_outcome draft line why (IsLineRefused.entry name extended why' indented 
     LineOutcome.inside indented (InsideOutcome.entry name extended (Err why') block kind (EntryOutcome.refused why' refused))
 refused_outcome draft line why (IsLineRefused.other unindented no_numbered no_head) = LineOutcome.outside unindented (OutsideOutcome.other no_numbered no_head)
 refused_outcome draft line why (IsLineRefused.no_block indented none) = LineOutcome.inside indented (InsideOutcome.no_block none)
+refused_outcome draft line why (IsLineRefused.banner banner) = LineOutcome.banner banner refl
 
 -- a line is taken in one way, or refused for one reason, and not both
 pub takes_are_one : (draft new other : Draft) (line : Reading) → Takes draft line new → Takes draft line other → new ≡ other

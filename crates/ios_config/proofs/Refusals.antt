@@ -15,7 +15,7 @@ use Rattle.ios_config.proofs.OpenBanners.{OpensAt}
 
 line_fault : (bytes : List ℕ) (front back : List (List ℕ)) (before after : List Reading) (line : Reading) (draft : Draft) (fault : ConfigFault) → raw_lines bytes ≡ front ++ back
     → AreLines 1 front (before ++ line ∷ after) → TakesAll no_lines before draft → IsLineFault draft line fault → IsFault bytes fault
-line_fault bytes front back before after line draft (fault.Refused number why) whole are taken refused = rw refused.0 (specs.line front back before after line draft why whole are taken refused.1)
+line_fault bytes front back before after line draft (fault.At number why) whole are taken refused = rw refused.0 (specs.line front back before after line draft why whole are taken refused.1)
 line_fault bytes front back before after line draft fault.NoMemory whole are taken refused = tt
 
 pub front_fault : (bytes : List ℕ) (front back : List (List ℕ)) (lines : List Reading) (fault : ConfigFault) → raw_lines bytes ≡ front ++ back → AreLines 1 front lines

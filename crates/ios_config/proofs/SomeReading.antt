@@ -7,18 +7,19 @@ use Rattle.ios_lex.specs.declared.reason.IosReason.{IosReason}
 use Rattle.ios_lex.specs.declared.reason.IosReason.TheVariants as ios
 use Rattle.ios_lex.specs.RawLines.{raw_lines}
 use Rattle.ios_lex.specs.Lines.{Reading, AreLines, IsUnclosed}
+use Rattle.ios_lex.specs.Phrases.{Words}
+use Rattle.ios_lex.specs.Refusal.{is_among}
+use Rattle.ios_lex.specs.ListNames.{IsListNumber, has_kind, is_standard, is_extended, is_foreign, is_name, FitsName}
 use Rattle.ios_lex.proofs.EachReading.{each_reading}
-use Rattle.ios_acl.specs.Block.{kind_word}
+use Rattle.ios_lex.proofs.Among.{among_cases}
+use Rattle.ios_acl.specs.Block.{kind_word, IsWithinBlock}
 use Rattle.ios_acl.specs.List.{AccessList}
-use Rattle.ios_acl.specs.Phrases.{Words}
-use Rattle.ios_acl.specs.Refusal.{is_among, unmodelled}
-use Rattle.ios_acl.specs.ListNames.{IsListNumber, has_kind, is_standard, is_extended, is_foreign, is_name, FitsName}
-use Rattle.ios_acl.proofs.PortWords.{among_cases}
+use Rattle.ios_acl.specs.Refusal.{unmodelled}
 use Rattle.ios_acl.proofs.SomeReading.{some_reading as list_reading}
 use Rattle.ios_config.specs.declared.fault.ConfigReason.{ConfigReason}
 use Rattle.ios_config.specs.declared.fault.ConfigReason.TheVariants as reason
 use Rattle.ios_config.specs.Router.{Draft, no_lines, list_named, with_list, growing, ignoring, kind_named}
-use Rattle.ios_config.specs.Line.{rule_words, FitsLists, Takes, IsNumberedRefused, IsBlockRefused, IsLineRefused}
+use Rattle.ios_config.specs.Line.{rule_words, FitsLists, IsCommand, Takes, IsNumberedRefused, IsBlockRefused, IsLineRefused}
 use Rattle.ios_config.specs.Reading.{Router, TakesAll, Reads, IsRefused}
 use Rattle.ios_config.proofs.BlockEntries.{reads_keeps}
 use Rattle.ios_config.proofs.OpenBanners.{opens_at}
@@ -60,7 +61,7 @@ grown_block draft name new named other is =
     let same : new.name ≡ other = cc (named, is) in
     (new.extended, subst (λ (n : List ℕ). kind_named (with_list draft.lists new) n ≡ Some new.extended) same (kind_with draft.lists new))
 
-rule_reading : (draft : Draft) (line : Reading) (name : List ℕ) (n : ℕ) (extended : Bool) (rule : Words) → line.indented ≡ false → line.words ≡ codes "access-list" ∷ name ∷ rule
+rule_reading : (draft : Draft) (line : Reading) (name : List ℕ) (n : ℕ) (extended : Bool) (rule : Words) → IsCommand line → line.words ≡ codes "access-list" ∷ name ∷ rule
     → IsListNumber name n → has_kind extended n ≡ true → FitsLists draft name extended → IsUntaken draft line → IsUnrefused (IsNumberedRefused draft (name ∷ rule)) → ⊥
 rule_reading draft line name n extended [] unindented words number kind fits untaken unrefused =
     unrefused ios.BadEntry (IsNumberedRefused.no_rule name n extended number kind fits)
@@ -70,18 +71,18 @@ rule_reading draft line name n extended (first ∷ rest) unindented words number
     (λ modelled. bool_cases (is_among rule_words first)
     (λ rule. list_reading (list_named draft.lists name extended) (first ∷ rest)
     (λ new reads. untaken (growing draft new None)
-    (Takes.numbered name extended first rest new (record { outside = unindented; words = words; n = n; number = number; kind = kind }) fits rule reads)
+    (Takes.numbered name extended first rest new (record { command = unindented; words = words; n = n; number = number; kind = kind }) fits rule reads)
     (λ other is. absurd (cc is)))
     (λ why refused. unrefused why (IsNumberedRefused.entry name n extended first rest why number kind fits rule refused)))
     (λ no_rule. unrefused ios.BadEntry (IsNumberedRefused.other name n extended first rest number kind fits modelled no_rule)))
 
-kind_reading : (draft : Draft) (line : Reading) (name : List ℕ) (n : ℕ) (extended : Bool) (rule : Words) → line.indented ≡ false → line.words ≡ codes "access-list" ∷ name ∷ rule
+kind_reading : (draft : Draft) (line : Reading) (name : List ℕ) (n : ℕ) (extended : Bool) (rule : Words) → IsCommand line → line.words ≡ codes "access-list" ∷ name ∷ rule
     → IsListNumber name n → has_kind extended n ≡ true → IsUntaken draft line → IsUnrefused (IsNumberedRefused draft (name ∷ rule)) → ⊥
 kind_reading draft line name n extended rule unindented words number kind untaken unrefused =
     by_cases (λ (begun : kind_named draft.lists name ≡ Some (not extended)). unrefused ios.WrongKind (IsNumberedRefused.begun name n extended rule number kind begun))
     (λ fits. rule_reading draft line name n extended rule unindented words number kind fits untaken unrefused)
 
-number_reading : (draft : Draft) (line : Reading) (name : List ℕ) (n : ℕ) (rule : Words) → line.indented ≡ false → line.words ≡ codes "access-list" ∷ name ∷ rule
+number_reading : (draft : Draft) (line : Reading) (name : List ℕ) (n : ℕ) (rule : Words) → IsCommand line → line.words ≡ codes "access-list" ∷ name ∷ rule
     → IsListNumber name n → IsUntaken draft line → IsUnrefused (IsNumberedRefused draft (name ∷ rule)) → ⊥
 number_reading draft line name n rule unindented words number untaken unrefused =
     bool_cases (is_extended n) (λ kind. kind_reading draft line name n true rule unindented words number kind untaken unrefused)
@@ -90,14 +91,14 @@ number_reading draft line name n rule unindented words number untaken unrefused 
     (λ foreign. untaken (ignoring draft) (Takes.foreign name n rule unindented words number foreign) (λ other is. absurd (cc is)))
     (λ not_foreign. unrefused ios.WrongKind (IsNumberedRefused.kind name n rule number not_standard not_extended not_foreign))))
 
-numbered_reading : (draft : Draft) (line : Reading) (words : Words) → line.indented ≡ false → line.words ≡ codes "access-list" ∷ words
+numbered_reading : (draft : Draft) (line : Reading) (words : Words) → IsCommand line → line.words ≡ codes "access-list" ∷ words
     → IsUntaken draft line → IsUnrefused (IsNumberedRefused draft words) → ⊥
 numbered_reading draft line [] unindented are untaken unrefused = unrefused ios.BadEntry IsNumberedRefused.short
 numbered_reading draft line (name ∷ rule) unindented are untaken unrefused =
     by_cases (λ (found : (n : ℕ) × IsListNumber name n). number_reading draft line name found.0 rule unindented are found.1 untaken unrefused)
     (λ none. unrefused ios.BadNumber (IsNumberedRefused.number name rule (λ n number. none (n, number))))
 
-name_reading : (draft : Draft) (line : Reading) (extended : Bool) (name : List ℕ) (more : Words) → line.indented ≡ false
+name_reading : (draft : Draft) (line : Reading) (extended : Bool) (name : List ℕ) (more : Words) → IsCommand line
     → line.words ≡ codes "ip" ∷ codes "access-list" ∷ kind_word extended ∷ name ∷ more → FitsName name extended → FitsLists draft name extended
     → IsUntaken draft line → IsUnrefused (IsBlockRefused draft (kind_word extended ∷ name ∷ more)) → ⊥
 name_reading draft line extended name (word ∷ rest) unindented are fits_name fits_lists untaken unrefused =
@@ -108,7 +109,7 @@ name_reading draft line extended name [] unindented are fits_name fits_lists unt
     (grown_block draft name (list_named draft.lists name extended) (name_of_named draft.lists name extended)))
     (λ no_name. unrefused ios.BadEntry (IsBlockRefused.bytes extended name fits_name fits_lists no_name))
 
-kind_head_reading : (draft : Draft) (line : Reading) (extended : Bool) (words : Words) → line.indented ≡ false → line.words ≡ codes "ip" ∷ codes "access-list" ∷ kind_word extended ∷ words
+kind_head_reading : (draft : Draft) (line : Reading) (extended : Bool) (words : Words) → IsCommand line → line.words ≡ codes "ip" ∷ codes "access-list" ∷ kind_word extended ∷ words
     → IsUntaken draft line → IsUnrefused (IsBlockRefused draft (kind_word extended ∷ words)) → ⊥
 kind_head_reading draft line extended [] unindented are untaken unrefused = unrefused ios.BadEntry (IsBlockRefused.nameless extended)
 kind_head_reading draft line extended (name ∷ more) unindented are untaken unrefused =
@@ -126,7 +127,7 @@ kind_among word among =
       ]
     ]
 
-head_reading : (draft : Draft) (line : Reading) (words : Words) → line.indented ≡ false → line.words ≡ codes "ip" ∷ codes "access-list" ∷ words
+head_reading : (draft : Draft) (line : Reading) (words : Words) → IsCommand line → line.words ≡ codes "ip" ∷ codes "access-list" ∷ words
     → IsUntaken draft line → IsUnrefused (IsBlockRefused draft words) → ⊥
 head_reading draft line [] unindented are untaken unrefused = unrefused ios.BadEntry IsBlockRefused.short
 head_reading draft line (word ∷ rest) unindented are untaken unrefused =
@@ -137,7 +138,7 @@ head_reading draft line (word ∷ rest) unindented are untaken unrefused =
     (λ why refused. unrefused why (rw kind.1 refused)))
     (λ no_kind. unrefused (ios.Unmodelled word) (IsBlockRefused.not_modelled word rest no_kind))
 
-outside_reading : (draft : Draft) (line : Reading) → line.indented ≡ false → IsUntaken draft line → ((why : ConfigReason) → IsLineRefused draft line why → ⊥) → ⊥
+outside_reading : (draft : Draft) (line : Reading) → IsCommand line → IsUntaken draft line → ((why : ConfigReason) → IsLineRefused draft line why → ⊥) → ⊥
 outside_reading draft line unindented untaken unrefused =
     by_cases (λ (numbered : (rest : Words) × (line.words ≡ codes "access-list" ∷ rest)). numbered_reading draft line numbered.0 unindented numbered.1 untaken
     (λ why refused. unrefused (reason.Ios why) (IsLineRefused.numbered numbered.0 why unindented numbered.1 refused)))
@@ -145,7 +146,7 @@ outside_reading draft line unindented untaken unrefused =
     (λ why refused. unrefused (reason.Ios why) (IsLineRefused.block head.0 why unindented head.1 refused)))
     (λ no_head. unrefused reason.NotBuilt (IsLineRefused.other unindented (λ rest are. not_numbered (rest, are)) (λ rest are. no_head (rest, are)))))
 
-entry_reading : (draft : Draft) (line : Reading) (name : List ℕ) (extended : Bool) → line.indented ≡ true → draft.block ≡ Some name → kind_named draft.lists name ≡ Some extended
+entry_reading : (draft : Draft) (line : Reading) (name : List ℕ) (extended : Bool) → IsWithinBlock line → draft.block ≡ Some name → kind_named draft.lists name ≡ Some extended
     → IsUntaken draft line → ((why : ConfigReason) → IsLineRefused draft line why → ⊥) → ⊥
 entry_reading draft line name extended indented block kind untaken unrefused =
     list_reading (list_named draft.lists name extended) line.words
@@ -153,7 +154,7 @@ entry_reading draft line name extended indented block kind untaken unrefused =
     (grown_block draft name new ((reads_keeps (list_named draft.lists name extended) new line.words reads).name ∙ name_of_named draft.lists name extended)))
     (λ why refused. unrefused (reason.Ios why) (IsLineRefused.entry name extended why indented block kind refused))
 
-inside_reading : (draft : Draft) (line : Reading) → line.indented ≡ true → HasBlockList draft → IsUntaken draft line → ((why : ConfigReason) → IsLineRefused draft line why → ⊥) → ⊥
+inside_reading : (draft : Draft) (line : Reading) → IsWithinBlock line → HasBlockList draft → IsUntaken draft line → ((why : ConfigReason) → IsLineRefused draft line why → ⊥) → ⊥
 inside_reading draft line indented has untaken unrefused =
     by_cases (λ (opened : (name : List ℕ) × (draft.block ≡ Some name)).
     let kind = has opened.0 opened.1 in
@@ -167,7 +168,9 @@ inside_reading draft line indented has untaken unrefused =
 -- a line is taken or refused
 line_reading : (draft : Draft) (line : Reading) → HasBlockList draft → IsUntaken draft line → ((why : ConfigReason) → IsLineRefused draft line why → ⊥) → ⊥
 line_reading draft line has untaken unrefused =
-    bool_cases line.indented (λ indented. inside_reading draft line indented has untaken unrefused) (λ unindented. outside_reading draft line unindented untaken unrefused)
+    bool_cases line.banner (λ banner. unrefused reason.NotBuilt (IsLineRefused.banner banner))
+    (λ outside. bool_cases line.indented (λ indented. inside_reading draft line (record { indented = indented; outside = outside }) has untaken unrefused)
+    (λ unindented. outside_reading draft line (record { unindented = unindented; outside = outside }) untaken unrefused))
 
 -- one of the lines is refused, and those before it are taken
 record StopsWithin (draft : Draft) (lines : List Reading) : Type 0 where

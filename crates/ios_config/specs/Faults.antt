@@ -6,5 +6,5 @@ use Rattle.ios_config.specs.Reading.{IsRefused}
 
 -- the line is refused; memory may be wanting at any time
 abbrev pub IsFault : List ℕ → ConfigFault → Type 0
-IsFault bytes (fault.Refused line why) = IsRefused bytes line why
+IsFault bytes (fault.At line why) = IsRefused bytes line why
 IsFault bytes fault.NoMemory = Unit {0}

@@ -3,12 +3,13 @@ use Rattle.std.specs.Prelude.{◌≡◌, ◌≢◌, ℕ, Bool, true, false, not,
 use Rattle.ios_lex.specs.Lines.{Reading}
 use Rattle.ios_lex.specs.declared.reason.IosReason.{IosReason}
 use Rattle.ios_lex.specs.declared.reason.IosReason.TheVariants as ios
-use Rattle.ios_acl.specs.Block.{kind_word}
+use Rattle.ios_lex.specs.Phrases.{Words}
+use Rattle.ios_lex.specs.Refusal.{is_among}
+use Rattle.ios_lex.specs.ListNames.{IsListNumber, has_kind, is_standard, is_extended, is_foreign, is_name, FitsName}
+use Rattle.ios_acl.specs.Block.{kind_word, IsWithinBlock}
 use Rattle.ios_acl.specs.List.{AccessList}
-use Rattle.ios_acl.specs.Phrases.{Words}
 use Rattle.ios_acl.specs.Reading as list
-use Rattle.ios_acl.specs.Refusal.{is_among, unmodelled}
-use Rattle.ios_acl.specs.ListNames.{IsListNumber, has_kind, is_standard, is_extended, is_foreign, is_name, FitsName}
+use Rattle.ios_acl.specs.Refusal.{unmodelled}
 use Rattle.ios_config.specs.declared.fault.ConfigReason.{ConfigReason}
 use Rattle.ios_config.specs.declared.fault.ConfigReason.TheVariants as reason
 use Rattle.ios_config.specs.Router.{Draft, list_named, growing, ignoring, kind_named}
@@ -17,9 +18,14 @@ use Rattle.ios_config.specs.Router.{Draft, list_named, growing, ignoring, kind_n
 abbrev pub rule_words : Words
 rule_words = codes "permit" ∷ codes "deny" ∷ codes "remark" ∷ []
 
+-- a line outside blocks and banners
+pub record IsCommand (line : Reading) : Type 0 where
+  pub unindented : line.indented ≡ false
+  pub outside : line.banner ≡ false
+
 -- the line is of the numbered list of this name and kind, and this stands behind the number
 pub record IsNumbered (line : Reading) (name : List ℕ) (extended : Bool) (rest : Words) : Type 0 where
-  pub outside : line.indented ≡ false
+  pub command : IsCommand line
   pub words : line.words ≡ codes "access-list" ∷ name ∷ rest
   pub n : ℕ
   pub number : IsListNumber name n
@@ -37,15 +43,15 @@ pub data Takes (draft : Draft) (line : Reading) : Draft → Type 0 where
       → is_among rule_words first ≡ true → list.Reads (list_named draft.lists name extended) (first ∷ rest) new
       → Takes draft line (growing draft new None)
   -- a numbered list of another protocol
-  foreign : (name : List ℕ) (n : ℕ) (rest : Words) → line.indented ≡ false → line.words ≡ codes "access-list" ∷ name ∷ rest
+  foreign : (name : List ℕ) (n : ℕ) (rest : Words) → IsCommand line → line.words ≡ codes "access-list" ∷ name ∷ rest
       → IsListNumber name n → is_foreign n ≡ true → Takes draft line (ignoring draft)
   -- the head of a block
-  block : (name : List ℕ) (extended : Bool) → line.indented ≡ false
+  block : (name : List ℕ) (extended : Bool) → IsCommand line
       → line.words ≡ codes "ip" ∷ codes "access-list" ∷ kind_word extended ∷ name ∷ []
       → FitsName name extended → FitsLists draft name extended → is_name name ≡ true
       → Takes draft line (growing draft (list_named draft.lists name extended) (Some name))
   -- a line of a block
-  entry : (name : List ℕ) (extended : Bool) (new : AccessList) → line.indented ≡ true → draft.block ≡ Some name
+  entry : (name : List ℕ) (extended : Bool) (new : AccessList) → IsWithinBlock line → draft.block ≡ Some name
       → kind_named draft.lists name ≡ Some extended → list.Reads (list_named draft.lists name extended) line.words new
       → Takes draft line (growing draft new (Some name))
 
@@ -88,14 +94,16 @@ pub data IsBlockRefused (draft : Draft) : Words → IosReason → Type 0 where
 
 -- why a line is refused
 pub data IsLineRefused (draft : Draft) (line : Reading) : ConfigReason → Type 0 where
-  numbered : (rest : Words) (why : IosReason) → line.indented ≡ false → line.words ≡ codes "access-list" ∷ rest
+  numbered : (rest : Words) (why : IosReason) → IsCommand line → line.words ≡ codes "access-list" ∷ rest
       → IsNumberedRefused draft rest why → IsLineRefused draft line (reason.Ios why)
-  block : (rest : Words) (why : IosReason) → line.indented ≡ false → line.words ≡ codes "ip" ∷ codes "access-list" ∷ rest
+  block : (rest : Words) (why : IosReason) → IsCommand line → line.words ≡ codes "ip" ∷ codes "access-list" ∷ rest
       → IsBlockRefused draft rest why → IsLineRefused draft line (reason.Ios why)
-  entry : (name : List ℕ) (extended : Bool) (why : IosReason) → line.indented ≡ true → draft.block ≡ Some name
+  entry : (name : List ℕ) (extended : Bool) (why : IosReason) → IsWithinBlock line → draft.block ≡ Some name
       → kind_named draft.lists name ≡ Some extended → list.IsRefused (list_named draft.lists name extended) line.words why
       → IsLineRefused draft line (reason.Ios why)
   -- a line of another command is not built yet
-  other : line.indented ≡ false → ((rest : Words) → line.words ≡ codes "access-list" ∷ rest → ⊥)
+  other : IsCommand line → ((rest : Words) → line.words ≡ codes "access-list" ∷ rest → ⊥)
       → ((rest : Words) → line.words ≡ codes "ip" ∷ codes "access-list" ∷ rest → ⊥) → IsLineRefused draft line reason.NotBuilt
-  no_block : line.indented ≡ true → draft.block ≡ None → IsLineRefused draft line reason.NotBuilt
+  -- nor are a line that no block is open for, and a line of a banner
+  no_block : IsWithinBlock line → draft.block ≡ None → IsLineRefused draft line reason.NotBuilt
+  banner : line.banner ≡ true → IsLineRefused draft line reason.NotBuilt

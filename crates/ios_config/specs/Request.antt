@@ -1,5 +1,5 @@
 -- The request that the policies of a router speak of: fifteen fields, as numbers.
-use Rattle.std.specs.Prelude.{◌≡◌, ℕ, ◌<◌, ◌^◌, List, [], ◌∷◌}
+use Rattle.std.specs.Prelude.{◌≡◌, ℕ, ◌<◌, ◌^◌, List, [], ◌∷◌, Contains, codes}
 use Rattle.ios_acl.specs.declared.packet.Packet.{Packet}
 use Rattle.ios_config.specs.declared.request.Field.{Field}
 use Rattle.ios_config.specs.declared.request.Field.TheVariants as field
@@ -71,3 +71,26 @@ abbrev pub packet_fields : List Field
 packet_fields =
     field.SrcIn ∷ field.DstIn ∷ field.SportIn ∷ field.DportIn
     ∷ field.Proto ∷ field.Flags ∷ field.IcmpType ∷ field.IcmpCode ∷ []
+
+-- the name of a field, as tests write it and scenarios print it
+abbrev pub field_name : Field → List ℕ
+field_name field.Entry = codes "entry"
+field_name field.SrcIn = codes "src_in"
+field_name field.DstIn = codes "dst_in"
+field_name field.SportIn = codes "sport_in"
+field_name field.DportIn = codes "dport_in"
+field_name field.Proto = codes "proto"
+field_name field.Flags = codes "flags"
+field_name field.IcmpType = codes "icmp_type"
+field_name field.IcmpCode = codes "icmp_code"
+field_name field.SrcOut = codes "src_out"
+field_name field.DstOut = codes "dst_out"
+field_name field.SportOut = codes "sport_out"
+field_name field.DportOut = codes "dport_out"
+field_name field.NextHop = codes "next_hop"
+field_name field.Exit = codes "exit"
+
+-- the field of the packet as it comes in that has the name
+pub record IsNamed (name : List ℕ) (f : Field) : Type 0 where
+  pub of_packet : Contains packet_fields f
+  pub named : name ≡ field_name f

@@ -1,6 +1,7 @@
 -- The access lists of a configuration while its lines are taken.
-use Rattle.std.specs.Prelude.{ℕ, ◌+◌, Bool, List, [], ◌∷◌, Option, Some, None}
+use Rattle.std.specs.Prelude.{◌≢◌, ℕ, ◌+◌, Bool, List, [], ◌∷◌, Option, Some, None}
 use Rattle.std.specs.Bool.{if◌then◌else◌}
+use Rattle.std.specs.List.{AllByRecursion}
 use Rattle.std.specs.Str.{bytes_eq}
 use Rattle.ios_acl.specs.Block.{empty_list}
 use Rattle.ios_acl.specs.List.{AccessList}
@@ -36,3 +37,8 @@ ignoring draft = record { lists = draft.lists; block = None; ignored = draft.ign
 abbrev pub kind_named : List AccessList → List ℕ → Option Bool
 kind_named [] name = None
 kind_named (list ∷ lists) name = if bytes_eq name list.name then Some list.extended else kind_named lists name
+
+-- no two of the lists have one name
+abbrev pub HaveDifferentNames : List AccessList → Type 0
+HaveDifferentNames [] = Unit {0}
+HaveDifferentNames (list ∷ lists) = AllByRecursion (λ (other : AccessList). other.name ≢ list.name) lists × HaveDifferentNames lists

@@ -5,20 +5,21 @@ use Rattle.std.specs.Str.{bytes_eq}
 use Rattle.ios_lex.specs.Lines.{Reading}
 use Rattle.ios_lex.specs.declared.reason.IosReason.{IosReason}
 use Rattle.ios_lex.specs.declared.reason.IosReason.TheVariants as ios
+use Rattle.ios_lex.specs.Phrases.{Words}
+use Rattle.ios_lex.specs.Refusal.{is_among}
+use Rattle.ios_lex.specs.ListNames.{is_name, FitsName}
 use Rattle.ios_acl.specs.declared.fault.AclFault.{AclFault}
 use Rattle.ios_acl.specs.declared.fault.AclFault.TheVariants as acl
 use Rattle.ios_acl.specs.List.{AccessList}
-use Rattle.ios_acl.specs.Phrases.{Words}
 use Rattle.ios_acl.specs.Reading as reading
 use Rattle.ios_acl.specs.Faults as faults
 use Rattle.ios_acl.specs.Block.{kind_word}
-use Rattle.ios_acl.specs.Refusal.{is_among, unmodelled}
-use Rattle.ios_acl.specs.ListNames.{is_name, FitsName}
+use Rattle.ios_acl.specs.Refusal.{unmodelled}
 use Rattle.ios_config.specs.declared.fault.ConfigReason.TheVariants as reason
 use Rattle.ios_config.specs.declared.fault.ConfigFault.{ConfigFault}
 use Rattle.ios_config.specs.declared.fault.ConfigFault.TheVariants as fault
 use Rattle.ios_config.specs.Router.{Draft, no_lines, list_named, with_list}
-use Rattle.ios_config.specs.Line.{Takes, IsLineRefused, FitsLists, rule_words}
+use Rattle.ios_config.specs.Line.{Takes, IsCommand, IsLineRefused, FitsLists, rule_words}
 use Rattle.ios_config.specs.Reading.{Router, TakesAll}
 
 abbrev pub has_name : List ℕ → AccessList → Bool
@@ -71,9 +72,9 @@ pub record ReadsAt (old : List AccessList) (place : ℕ) (words : Words) (new : 
 abbrev pub FailsAt : List AccessList → ℕ → Words → AclFault → Type 0
 FailsAt lists place words fault = (list : AccessList) → slice_get lists place ≡ Some list → faults.IsFault list words fault
 
--- the draft takes each line that begins with these words, outside blocks, and goes on so
+-- the draft takes each line that begins with these words, outside blocks and banners, and goes on so
 abbrev pub TakesBehind : Words → Draft → Words → Draft → Type 0
-TakesBehind front draft words next = (line : Reading) → line.indented ≡ false → line.words ≡ front ++ words → Takes draft line next
+TakesBehind front draft words next = (line : Reading) → IsCommand line → line.words ≡ front ++ words → Takes draft line next
 
 -- the words behind the name of a numbered list
 pub record BeginsRule (words : Words) : Type 0 where
@@ -101,14 +102,14 @@ pub record IsHead (draft : Draft) (words : Words) (name : List ℕ) (extended : 
 
 -- the faults of the line of this number
 abbrev pub not_built : ℕ → ConfigFault
-not_built line = fault.Refused line reason.NotBuilt
+not_built line = fault.At line reason.NotBuilt
 
 abbrev pub located : ℕ → AclFault → ConfigFault
-located line (acl.Refused why) = fault.Refused line (reason.Ios why)
+located line (acl.Refused why) = fault.At line (reason.Ios why)
 located line acl.NoMemory = fault.NoMemory
 
 abbrev pub IsLineFault : Draft → Reading → ConfigFault → Type 0
-IsLineFault draft line (fault.Refused number why) = (number ≡ line.number) × IsLineRefused draft line why
+IsLineFault draft line (fault.At number why) = (number ≡ line.number) × IsLineRefused draft line why
 IsLineFault draft line fault.NoMemory = Unit {0}
 
 -- the lines up to one are taken, and that one is not

@@ -1,8 +1,8 @@
 ghost use Rattle.std.specs.Prelude.{◌≡◌, ◌<◌, ◌^◌, [], ◌∷◌, codes, true, false, OnOk, IfOk, IfErr, Some};
 ghost use Rattle.ios_lex.specs.LineReadings.{reading_of};
+ghost use Rattle.ios_lex.specs.ListNames as names;
 ghost use Rattle.ios_acl.specs.Refusal as refusal;
 ghost use Rattle.ios_config.specs.Line.{Takes, IsNumberedRefused, IsBlockRefused};
-ghost use Rattle.ios_acl.specs.ListNames as names;
 ghost use Rattle.ios_config.specs.Router.{no_lines, ignoring};
 ghost use Rattle.ios_config.specs.Taking as specs;
 ghost use Rattle.ios_config.specs.Taking.{IsAclFault, IsHead, IsLineFault, TakesBehind};
@@ -10,8 +10,8 @@ ghost use Rattle.ios_config.specs.Taking.{IsAclFault, IsHead, IsLineFault, Takes
 use crate::fault::{ConfigFault, ConfigReason};
 use crate::lists::{add_rule, begin, is_other_kind, read_at};
 use crate::words::{behind, behind_head, check_rule, kind};
-use ios_acl::{Acl, AclFault, is_foreign, is_name, is_number_of, kind_of, list_number, unmodelled};
-use ios_lex::{IosReason, Line, Word};
+use ios_acl::{Acl, AclFault, unmodelled};
+use ios_lex::{IosReason, Line, Word, is_foreign, is_name, is_number_of, kind_of, list_number};
 use std::alloc::Global;
 use std::marker::Model;
 
@@ -38,8 +38,9 @@ impl Model for Draft {
 
 impl Draft {
     ghost use Rattle.ios_lex.specs.Lines.{Reading};
-    ghost use Rattle.ios_acl.specs.declared.fault.AclFault.TheVariants as acl;
     ghost use Rattle.ios_lex.specs.declared.reason.IosReason.TheVariants as ios;
+    ghost use Rattle.ios_acl.specs.Block.{IsWithinBlock};
+    ghost use Rattle.ios_acl.specs.declared.fault.AclFault.TheVariants as acl;
 
     /// The draft before the first line.
     pub fn new(alloc: Global) -> Draft
@@ -66,9 +67,12 @@ impl Draft {
         ensures taken { OnOk result (Takes self.old (reading_of line.now) self.new) }
         ensures refused { IfErr result (IsLineFault self.old (reading_of line.now)) }
     {
+        if line.banner {
+            return Err(not_built(line.number));
+        }
         let words = line.words.as_slice();
         if line.indented {
-            return self.take_indented(alloc, line.number, words);
+            return self.take_indented(line.number, words);
         }
         if let Some(rest) = behind(words, "access-list") {
             return match self.take_numbered(alloc, rest) {
@@ -86,19 +90,14 @@ impl Draft {
     }
 
     /// Takes a line of the block that is open.
-    fn take_indented(
-        &mut self,
-        alloc: Global,
-        number: u64,
-        words: &[Word],
-    ) -> Result<(), ConfigFault>
-        ensures taken { OnOk result ((line : Reading) → line.indented ≡ true → line.words ≡ words.now → Takes self.old line self.new) }
-        ensures refused { IfErr result (λ fault. (line : Reading) → line.indented ≡ true → line.words ≡ words.now → line.number ≡ number → IsLineFault self.old line fault) }
+    fn take_indented(&mut self, number: u64, words: &[Word]) -> Result<(), ConfigFault>
+        ensures taken { OnOk result ((line : Reading) → IsWithinBlock line → line.words ≡ words.now → Takes self.old line self.new) }
+        ensures refused { IfErr result (λ fault. (line : Reading) → IsWithinBlock line → line.words ≡ words.now → line.number ≡ number → IsLineFault self.old line fault) }
     {
         let Some(place) = self.block else {
             return Err(not_built(number));
         };
-        if let Err(fault) = read_at(alloc, &mut self.lists, place, words) {
+        if let Err(fault) = read_at(&mut self.lists, place, words) {
             return Err(located(number, fault));
         }
         Ok(())
@@ -192,7 +191,7 @@ impl Draft {
 pub fn not_built(line: u64) -> ConfigFault
     ensures { result ≡ specs.not_built line }
 {
-    ConfigFault::Refused {
+    ConfigFault::At {
         line,
         reason: ConfigReason::NotBuilt,
     }
@@ -203,7 +202,7 @@ fn located(line: u64, fault: AclFault) -> ConfigFault
     ensures { result ≡ specs.located line fault }
 {
     match fault {
-        AclFault::Refused(why) => ConfigFault::Refused {
+        AclFault::Refused(why) => ConfigFault::At {
             line,
             reason: ConfigReason::Ios(why),
         },

@@ -12,6 +12,6 @@ pub enum ConfigReason {
 #[derive(Debug, Drop)]
 pub enum ConfigFault {
     /// The first line that is refused, from 1.
-    Refused { line: u64, reason: ConfigReason },
+    At { line: u64, reason: ConfigReason },
     NoMemory,
 }

@@ -54,18 +54,13 @@ pub fn begin(
 }
 
 /// Reads the line into the list at this place.
-pub fn read_at(
-    alloc: Global,
-    lists: &mut Vec<Acl>,
-    place: usize,
-    words: &[Word],
-) -> Result<(), AclFault>
+pub fn read_at(lists: &mut Vec<Acl>, place: usize, words: &[Word]) -> Result<(), AclFault>
     requires { place < length lists.old.items }
     ensures read { OnOk result (ReadsAt lists.old.items place words.now lists.new.items) }
     ensures unchanged { OnErr result (lists.new.items ≡ lists.old.items) }
     ensures refused { IfErr result (FailsAt lists.old.items place words.now) }
 {
-    lists[place].read_line(alloc, words)
+    lists[place].read_line(words)
 }
 
 /// Reads the line into the list of this name, which is begun as one of this kind where there is none.
@@ -82,5 +77,5 @@ pub fn add_rule(
     let Ok(place) = begin(alloc, lists, name, extended) else {
         return Err(AclFault::NoMemory);
     };
-    read_at(alloc, lists, place, words)
+    read_at(lists, place, words)
 }

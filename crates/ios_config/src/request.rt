@@ -1,3 +1,20 @@
+ghost use Rattle.std.specs.Prelude.{◌≡◌, IfSome, IfNone, find};
+ghost use Rattle.std.specs.Str.{bytes_eq};
+ghost use Rattle.ios_config.specs.declared.request.Field.{Field};
+ghost use Rattle.ios_config.specs.Request.{IsNamed, field_name};
+
+/// The fields of the packet that comes in, in order.
+const IN_PACKET: [Field; 8] = [
+    Field::SrcIn,
+    Field::DstIn,
+    Field::SportIn,
+    Field::DportIn,
+    Field::Proto,
+    Field::Flags,
+    Field::IcmpType,
+    Field::IcmpCode,
+];
+
 /// A field of a request.
 #[derive(Clone, Copy, Debug, PartialEq, Eq)]
 pub enum Field {
@@ -18,4 +35,49 @@ pub enum Field {
     NextHop,
     /// The interface by which it goes out.
     Exit,
+}
+
+impl Field {
+    /// The name of the field, as tests write it and scenarios print it.
+    pub fn name(self) -> &'static str
+        ensures { result.now ≡ field_name self }
+    {
+        match self {
+            Field::Entry => "entry",
+            Field::SrcIn => "src_in",
+            Field::DstIn => "dst_in",
+            Field::SportIn => "sport_in",
+            Field::DportIn => "dport_in",
+            Field::Proto => "proto",
+            Field::Flags => "flags",
+            Field::IcmpType => "icmp_type",
+            Field::IcmpCode => "icmp_code",
+            Field::SrcOut => "src_out",
+            Field::DstOut => "dst_out",
+            Field::SportOut => "sport_out",
+            Field::DportOut => "dport_out",
+            Field::NextHop => "next_hop",
+            Field::Exit => "exit",
+        }
+    }
+
+    /// The field of the packet that comes in that has this name.
+    pub fn in_packet(name: &[u8]) -> Option<Field>
+        ensures found { IfSome result (IsNamed name.now) }
+        ensures none { IfNone result ((f : Field) → IsNamed name.now f → ⊥) }
+    {
+        field_named(name, &IN_PACKET)
+    }
+}
+
+/// The first of the fields that has the name.
+fn field_named(name: &[u8], fields: &[Field]) -> Option<Field>
+    ensures { result ≡ find (λ f. bytes_eq name.now (field_name f)) fields.now }
+{
+    for field in fields {
+        if name == field.name().as_bytes() {
+            return Some(*field);
+        }
+    }
+    None
 }

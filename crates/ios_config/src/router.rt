@@ -6,7 +6,7 @@ ghost use Rattle.ios_config.specs.declared.fault.ConfigReason.{ConfigReason as W
 ghost use Rattle.ios_config.specs.Reading.{Router as Read};
 ghost use Rattle.ios_config.specs.Reading as specs;
 ghost use Rattle.ios_config.specs.Faults.{IsFault};
-ghost use Rattle.ios_config.specs.Router.{no_lines};
+ghost use Rattle.ios_config.specs.Router.{HaveDifferentNames, no_lines};
 ghost use Rattle.ios_config.specs.Taking.{IsRouterOf, StopsAmong};
 
 use crate::draft::{Draft, not_built};
@@ -16,14 +16,13 @@ use ios_lex::{LexFault, Line, lines, split_at_byte};
 use std::alloc::Global;
 use std::marker::Model;
 
-#[cfg(test)]
-mod tests;
-
 /// What a configuration says.
 #[derive(Drop)]
 pub struct Router {
-    lists: Vec<Acl>,
-    ignored: u64,
+    /// The access lists, in the order in which they were begun; those without entries are not defined.
+    pub lists: Vec<Acl>,
+    /// How many lines were ignored.
+    pub ignored: u64,
 }
 
 impl Model for Router {
@@ -34,25 +33,10 @@ impl Model for Router {
     ghost view = { λ r. record { lists = r.lists.items; ignored = r.ignored } };
 }
 
-impl Router {
-    /// The access lists, in the order in which they were begun; those without entries are not defined.
-    pub fn lists(&self) -> &[Acl]
-        ensures { result.now ≡ self.now.lists }
-    {
-        self.lists.as_slice()
-    }
-
-    /// How many lines were ignored.
-    pub fn ignored(&self) -> u64
-        ensures { result ≡ self.now.ignored }
-    {
-        self.ignored
-    }
-}
-
 /// Reads a configuration, up to its first line that is refused.
 pub fn read_config(alloc: Global, bytes: &[u8]) -> Result<Router, ConfigFault>
     ensures read { IfOk result (specs.Reads bytes.now) }
+    ensures names { IfOk result (λ router. HaveDifferentNames router.lists) }
     ensures refused { IfErr result (IsFault bytes.now) }
 {
     match lines(alloc, bytes) {

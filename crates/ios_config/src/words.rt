@@ -1,7 +1,8 @@
 ghost use Rattle.std.specs.Prelude.{◌≡◌, ◌∷◌, [], codes, OnOk, IfErr, IfSome, IfNone, true, false};
+ghost use Rattle.ios_lex.specs.Phrases.{Words};
+ghost use Rattle.ios_lex.specs.Refusal.{is_among};
 ghost use Rattle.ios_acl.specs.Block.{kind_word};
-ghost use Rattle.ios_acl.specs.Phrases.{Words};
-ghost use Rattle.ios_acl.specs.Refusal as specs;
+ghost use Rattle.ios_acl.specs.Refusal.{unmodelled as unmodelled_words};
 ghost use Rattle.ios_config.specs.Line.{rule_words};
 ghost use Rattle.ios_config.specs.Taking.{BeginsRule, IsNoRule, IsAclFault};
 
@@ -30,7 +31,7 @@ pub fn behind_head(words: &[Word]) -> Option<&[Word]>
 /// Whether the word says that a list is extended, or standard. None where it says neither.
 pub fn kind(word: &Word) -> Option<bool>
     ensures found { IfSome result (λ extended. word.now ≡ kind_word extended) }
-    ensures none { IfNone result (specs.is_among (codes "standard" ∷ codes "extended" ∷ []) word.now ≡ false) }
+    ensures none { IfNone result (is_among (codes "standard" ∷ codes "extended" ∷ []) word.now ≡ false) }
 {
     if word.is("extended") {
         Some(true)
@@ -43,14 +44,14 @@ pub fn kind(word: &Word) -> Option<bool>
 
 /// Whether the word begins an entry or a remark.
 fn is_rule_word(word: &Word) -> bool
-    ensures { result ≡ specs.is_among rule_words word.now }
+    ensures { result ≡ is_among rule_words word.now }
 {
     word.is("permit") || word.is("deny") || word.is("remark")
 }
 
 /// Whether the word behind the number of a list stands for more than is modelled.
 fn is_not_modelled(word: &Word) -> bool
-    ensures { result ≡ specs.is_among (codes "dynamic" ∷ specs.unmodelled) word.now }
+    ensures { result ≡ is_among (codes "dynamic" ∷ unmodelled_words) word.now }
 {
     word.is("dynamic") || is_unmodelled(word)
 }

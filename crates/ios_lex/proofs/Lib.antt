@@ -16,3 +16,15 @@ pub mod EachReading
 pub mod NextWords
 pub mod OpenedTexts
 pub mod OpeningWords
+pub mod Equivalences
+pub mod Fronts
+pub mod Stopping
+pub mod Chains
+pub mod Choices
+pub mod OneCut
+pub mod OneStop
+pub mod FirstStops
+pub mod SomeStop
+pub mod Among
+pub mod ListNumbers
+pub mod WordForms

@@ -8,3 +8,8 @@ pub mod RawLines
 pub mod Banner
 pub mod Lines
 pub mod LineReadings
+pub mod Phrases
+pub mod Following
+pub mod Refusal
+pub mod Stops
+pub mod ListNames

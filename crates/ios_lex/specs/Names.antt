@@ -128,3 +128,7 @@ IsType word message = IsNumber 255 word message.0 × (message.1 ≡ None)
 -- an ICMP message is named by the table, or is the number of its type
 abbrev pub IsMessage : List ℕ → ℕ × Option ℕ → Type 0
 IsMessage word message = Contains icmp_messages (word, message) ⊎ IsType word message
+
+-- the word is the name of a message, and no number
+abbrev pub IsMessageName : List ℕ → Type 0
+IsMessageName word = (message : ℕ × Option ℕ) × Contains icmp_messages (word, message)

@@ -1,8 +1,9 @@
-//! Lines and words of IOS configurations, and what single words spell: addresses, numbers, and the names of protocols,
-//! ports and ICMP messages; and which masks keep a prefix.
+//! Lines and words of IOS configurations, and what single words spell: addresses, numbers, the names of protocols, ports
+//! and ICMP messages, and those of access lists; and which masks keep a prefix.
 //!
-//! A look-up answers None exactly where the word spells nothing of its kind, and takes no memory. The reasons for
-//! which a line of a configuration is refused stand here too, since all readers of such lines share them.
+//! A look-up answers None exactly where the word spells nothing of its kind, and takes no memory. Where words stop to
+//! begin a line of some grammar, and for which reason the line is refused there, stands here too, since all readers of
+//! such lines share it: the grammar is an argument.
 //! `ios_acl` reads its lines with these words.
 #![tactic(auto)]
 
@@ -11,10 +12,13 @@ mod banner;
 mod cut;
 mod decimals;
 mod line;
+mod list_names;
 mod masks;
 mod names;
 mod raw_lines;
 mod reason;
+mod refusal;
+mod stop;
 mod word;
 mod words;
 
@@ -23,12 +27,12 @@ pub use banner::opening_words;
 pub use cut::split_at_byte;
 pub use decimals::{byte, number};
 pub use line::{LexFault, Line, lines, one_line_reading};
+pub use list_names::{is_foreign, is_name, is_number_of, kind_of, list_number};
 pub use masks::prefix_len;
 pub use names::{icmp, one_name, port, protocol};
 pub use reason::IosReason;
+pub use refusal::{begins_with_digit, is_among, reason_of, table_at, unmodelled};
 pub use std::alloc::AllocError as NoMemory;
+pub use stop::{Due, Stop, stop_before};
 pub use word::Word;
 pub use words::words_in;
-
-#[cfg(test)]
-mod tests;

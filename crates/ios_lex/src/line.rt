@@ -11,9 +11,6 @@ use crate::word::Word;
 use crate::words::{is_gap, words_in};
 use std::alloc::{AllocError, Global};
 
-#[cfg(test)]
-mod tests;
-
 /// A line of a configuration.
 #[derive(Debug, Drop)]
 pub struct Line {

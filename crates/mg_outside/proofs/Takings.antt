@@ -1,6 +1,7 @@
--- What a sink takes in several pieces.
+-- What a sink takes, and a file gives, in several pieces.
 use Rattle.std.proofs.Common.{◌≡◌, ℕ, ◌+◌, ◌≤◌, List, ◌++◌, length, Option, None, Some, take, drop, take_all, length-drop, ap, sym, ◌∙◌, append_assoc, arith}
 use Rattle.std.proofs.lemmas.List.{take-append-drop}
+use Rattle.std.specs.Io.KnownBytes.{Consumes}
 use Rattle.mg_outside.specs.Taking.{Takes}
 
 -- two pieces, one after the other
@@ -11,6 +12,14 @@ Takes-then (Some x) None c front more first second = absurd (cc)
 Takes-then (Some x) (Some y) c front more first second =
     let joined : y ≡ x ++ front = cc in
     second ∙ ap (λ l. Some (l ++ more)) joined ∙ ap Some (append_assoc x front more)
+
+-- two pieces that a file gives, one after the other
+pub Consumes-then : (a b c : Option (List ℕ)) (front more : List ℕ) → Consumes a b front → Consumes b c more → Consumes a c (front ++ more)
+Consumes-then None b c front more first second = tt
+Consumes-then (Some x) None c front more first second = absurd first
+Consumes-then (Some x) (Some y) None front more first second = absurd second
+Consumes-then (Some x) (Some y) (Some z) front more first second =
+    first ∙ ap (λ l. front ++ l) second ∙ sym (append_assoc front more z)
 
 -- a front of the rest goes to what was taken, and all behind it stays
 pub front_moves : (n m : ℕ) (front rest all : List ℕ) → all ≡ front ++ rest → length rest ≤ m + n → all ≡ (front ++ take n rest) ++ take m (drop n rest)

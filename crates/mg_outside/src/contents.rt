@@ -31,16 +31,16 @@ impl Entry {
         })
     }
 
-    /// A copy of the bytes, unless there are more than `most`.
-    pub(crate) fn read(&self, alloc: Global, most: u64) -> Result<Vec<u8>, FileFault>
+    /// A copy of the bytes, unless there are more than `max`.
+    pub(crate) fn read(&self, alloc: Global, max: u64) -> Result<Vec<u8>, FileFault>
         ensures bytes { IfOk result (λ bytes. bytes.items ≡ self.now.1) }
-        ensures within { IfOk result (λ bytes. length bytes.items ≤ most) }
-        ensures too_long { IfErr result (Explains (Some self.now.1) most) }
-        ensures long { most < length self.now.1 → result ≡ Err (FileFault.TooLong (length self.now.1)) }
+        ensures within { IfOk result (λ bytes. length bytes.items ≤ max) }
+        ensures too_long { IfErr result (Explains (Some self.now.1) max) }
+        ensures long { max < length self.now.1 → result ≡ Err (FileFault.TooLong (length self.now.1)) }
         ensures never_fails { result ≢ Err FileFault.Failed }
     {
         let given = self.bytes.len() as u64;
-        if given > most {
+        if given > max {
             return Err(FileFault::TooLong { given });
         }
         match Vec::from_slice(alloc, self.bytes.as_slice()) {

@@ -1,7 +1,9 @@
-ghost use Rattle.std.specs.Prelude.{◌≡◌};
+ghost use Rattle.std.specs.Prelude.{◌≡◌, []};
 
 use crate::failed::{Failed, counted};
-use crate::folder::Folder;
+use crate::folder::{Folder, OpenFault};
+use crate::names::Names;
+use std::alloc::Global;
 use std::fs;
 use std::io::Read;
 use std::marker::Model;
@@ -11,22 +13,29 @@ use std::marker::Model;
 #[derive(Drop)]
 pub struct Disk<'a, R> {
     rt: &'a R,
+    names: Names,
+    given: u64,
     faults: u64,
 }
 
 impl<'a, R> Model for Disk<'a, R> {
-    ghost use Rattle.std.specs.Prelude.{ℕ};
+    ghost use Rattle.mg_outside.specs.Logs.{FolderLog};
 
-    ghost Value = { ℕ };
+    ghost Value = { FolderLog };
 
-    ghost view = { λ d. d.faults };
+    ghost view = { λ d. record { names = d.names; given = d.given; faults = d.faults } };
 }
 
 impl<'a, R: std::rt::Files> Disk<'a, R> {
-    pub(crate) fn new(rt: &'a R) -> Disk<'a, R>
-        ensures { result ≡ 0 }
+    pub(crate) fn new(alloc: Global, rt: &'a R) -> Disk<'a, R>
+        ensures { result ≡ record { names = []; given = 0; faults = 0 } }
     {
-        Disk { rt, faults: 0 }
+        Disk {
+            rt,
+            names: Names::new(alloc),
+            given: 0,
+            faults: 0,
+        }
     }
 }
 
@@ -39,13 +48,21 @@ impl<R: std::rt::Files> Folder for Disk<'_, R> {
 
     ghost left = { λ file. R.File.remaining file };
 
-    ghost faults = { λ d. d };
+    ghost log = { λ d. d };
 
-    fn open(&mut self, name: &str) -> Result<R::File, Failed> {
-        counted(fs::open(self.rt, name), &mut self.faults)
+    fn open(&mut self, name: &str) -> Result<R::File, OpenFault> {
+        if self.names.push(name).is_err() {
+            return Err(OpenFault::NoMemory);
+        }
+        match counted(fs::open(self.rt, name), &mut self.faults) {
+            Ok(file) => Ok(file),
+            Err(Failed) => Err(OpenFault::Failed),
+        }
     }
 
     fn read_some(&mut self, opened: &mut R::File, piece: &mut [u8]) -> Result<usize, Failed> {
-        counted(opened.read(piece), &mut self.faults)
+        let count = counted(opened.read(piece), &mut self.faults)?;
+        self.given = self.given.saturating_add(count as u64);
+        Ok(count)
     }
 }

@@ -1,6 +1,7 @@
-ghost use Rattle.std.specs.Prelude.{◌≡◌, ◌≢◌, ◌+◌, ◌≤◌, ℕ, List, Option, IfOk, IfErr};
-ghost use Rattle.mg_outside.specs.Faults.{Rose, one_more};
-ghost use Rattle.mg_outside.specs.Reading.{Gives, Explains};
+ghost use Rattle.std.specs.Prelude.{◌≡◌, ◌≢◌, ◌+◌, ◌≤◌, ◌∷◌, ◌++◌, [], ℕ, List, Option, IfOk, IfErr};
+ghost use Rattle.mg_outside.specs.Faults.{Rose};
+ghost use Rattle.mg_outside.specs.Logs.{FileLog};
+ghost use Rattle.mg_outside.specs.Reading.{AddsAtMost, Explains, Gives};
 
 use std::alloc::Global;
 
@@ -11,7 +12,7 @@ pub enum FileFault {
     Failed,
     /// The file has more bytes than were asked for; `given` of them were counted.
     TooLong { given: u64 },
-    /// There was no memory for the bytes.
+    /// There was no memory for the bytes, or for a note of the name.
     NoMemory,
 }
 
@@ -20,20 +21,22 @@ pub trait Files {
     /// The bytes that a file holds, where they are told.
     ghost holds: { Self → List ℕ → Option (List ℕ) };
 
-    /// How often reads of a name have failed.
-    ghost faults: { Self → List ℕ → ℕ };
+    /// The names that were read, in order, and how often reads of a name have failed.
+    ghost log: { Self → FileLog };
 
-    /// How many reads there were, up to 2^64 - 1.
-    ghost reads: { Self → ℕ };
+    /// The bytes of the file of this name, which are at most `max`.
+    fn read(&mut self, alloc: Global, name: &str, max: u64) -> Result<Vec<u8>, FileFault>
+        ensures bytes { IfOk result (λ bytes. Gives (holds self.old name.now) max bytes.items) }
+        ensures too_long { IfErr result (Explains (holds self.old name.now) max) }
 
-    /// The bytes of the file of this name, which are at most `most`.
-    fn read(&mut self, alloc: Global, name: &str, most: u64) -> Result<Vec<u8>, FileFault>
-        ensures bytes { IfOk result (λ bytes. Gives (holds self.old name.now) most bytes.items) }
-        ensures too_long { IfErr result (Explains (holds self.old name.now) most) }
-        ensures failed { result ≡ Err FileFault.Failed → Rose (faults self.old name.now) (faults self.new name.now) }
-        ensures no_fault { result ≢ Err FileFault.Failed → (other : List ℕ) → faults self.new other ≡ faults self.old other }
-        ensures at_most_one { (other : List ℕ) → faults self.new other ≤ faults self.old other + 1 }
-        ensures counted { reads self.new ≡ one_more (reads self.old) }
-        ensures later { (other : List ℕ) → faults self.old other ≤ faults self.new other }
+        // Which names were read. Where memory for a note of the name is wanting, nothing was read.
+        ensures named { result ≢ Err FileFault.NoMemory → (log self.new).names ≡ (log self.old).names ++ name.now ∷ [] }
+        ensures named_at_most { AddsAtMost (log self.old).names name.now (log self.new).names }
+
+        // Which reads failed.
+        ensures failed { result ≡ Err FileFault.Failed → Rose ((log self.old).faults name.now) ((log self.new).faults name.now) }
+        ensures no_fault { result ≢ Err FileFault.Failed → (other : List ℕ) → (log self.new).faults other ≡ (log self.old).faults other }
+        ensures at_most_one { (other : List ℕ) → (log self.new).faults other ≤ (log self.old).faults other + 1 }
+        ensures later { (other : List ℕ) → (log self.old).faults other ≤ (log self.new).faults other }
         ensures same { (other : List ℕ) → holds self.new other ≡ holds self.old other };
 }

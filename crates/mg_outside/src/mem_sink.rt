@@ -76,11 +76,11 @@ fn take_all(taken: &mut Vec<u8>, bytes: &[u8]) -> Result<(), SinkFault>
 }
 
 /// The first bytes, so many of them or all.
-fn front(bytes: &[u8], most: u64) -> &[u8]
-    ensures { result.now ≡ take most bytes.now }
+fn front(bytes: &[u8], max: u64) -> &[u8]
+    ensures { result.now ≡ take max bytes.now }
 {
-    if most < bytes.len() as u64 {
-        &bytes[..most as usize]
+    if max < bytes.len() as u64 {
+        &bytes[..max as usize]
     } else {
         bytes
     }
@@ -92,14 +92,13 @@ impl Sink for MemSink {
     ghost use Rattle.mg_outside.specs.Taking.{Takes, TakesFront};
     ghost use Rattle.mg_outside.specs.Memory.{HeldSink, next_limit, after_write, after_failure};
 
-    ghost taken = { λ s. Some s.bytes };
-
-    ghost faults = { λ s. s.faults };
+    ghost log = { λ s. record { taken = Some s.bytes; writes = s.writes; faults = s.faults } };
 
     fn write_all(&mut self, bytes: &[u8]) -> Result<(), SinkFault>
         ensures ok { OnOk result (Takes (Some self.old.bytes) (Some self.new.bytes) bytes.now) }
         ensures err { OnErr result (TakesFront (Some self.old.bytes) (Some self.new.bytes) bytes.now) }
         ensures failed { result ≡ Err SinkFault.Failed → Rose self.old.faults self.new.faults }
+        ensures counted { self.new.writes ≡ one_more self.old.writes }
         ensures later { self.old.faults ≤ self.new.faults }
         ensures after_ok { OnOk result (IsNone (next_limit self.old) × (self.new ≡ after_write self.old bytes.now)) }
         ensures after_failure { result ≡ Err SinkFault.Failed → IsSomeAnd (next_limit self.old) (λ limit. self.new ≡ after_failure self.old (take limit bytes.now)) }

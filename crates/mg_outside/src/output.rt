@@ -13,11 +13,12 @@ pub trait Output {
     /// How often a call has failed.
     ghost faults: { Self → ℕ };
 
-    /// Takes a front of the bytes, and says how many they are. An output that takes none of some bytes fails, and counts
-    /// it.
+    /// Takes a front of the bytes, of which there are some, and says how many they are. An output that takes none of
+    /// them fails, and counts it.
     fn write_some(&mut self, bytes: &[u8]) -> Result<usize, Failed>
+        requires { 0 < length bytes.now }
         ensures within { WritesAtMost result bytes.now }
-        ensures some { IfOk result (λ count. 0 < length bytes.now → 0 < count) }
+        ensures some { IfOk result (λ count. 0 < count) }
         ensures front { IfOk result (λ count. Takes (taken self.old) (taken self.new) (take count bytes.now)) }
         ensures none { OnErr result (taken self.new ≡ taken self.old) }
         ensures failed { OnErr result (Rose (faults self.old) (faults self.new)) }

@@ -1,5 +1,6 @@
-ghost use Rattle.std.specs.Prelude.{◌≡◌, ◌≢◌, ◌+◌, ◌≤◌, ℕ, List, Option, OnOk, OnErr};
-ghost use Rattle.mg_outside.specs.Faults.{Rose};
+ghost use Rattle.std.specs.Prelude.{◌≡◌, ◌≢◌, ◌+◌, ◌≤◌, OnOk, OnErr};
+ghost use Rattle.mg_outside.specs.Faults.{Rose, one_more};
+ghost use Rattle.mg_outside.specs.Logs.{SinkLog};
 ghost use Rattle.mg_outside.specs.Taking.{Takes, TakesFront};
 
 /// Why bytes are not taken.
@@ -13,19 +14,17 @@ pub enum SinkFault {
 
 /// What takes the bytes that are written.
 pub trait Sink {
-    /// The bytes that it has taken, where they are told.
-    ghost taken: { Self → Option (List ℕ) };
-
-    /// How often it has failed.
-    ghost faults: { Self → ℕ };
+    /// The bytes that it has taken, where they are told, how many writes there were, and how many of them failed.
+    ghost log: { Self → SinkLog };
 
     /// Takes the bytes, all of them or, where it fails, a front of them.
     fn write_all(&mut self, bytes: &[u8]) -> Result<(), SinkFault>
-        ensures ok { OnOk result (Takes (taken self.old) (taken self.new) bytes.now) }
-        ensures err { OnErr result (TakesFront (taken self.old) (taken self.new) bytes.now) }
-        ensures failed { result ≡ Err SinkFault.Failed → Rose (faults self.old) (faults self.new) }
-        ensures no_fault { result ≢ Err SinkFault.Failed → faults self.new ≡ faults self.old }
-        ensures at_most_one { faults self.new ≤ faults self.old + 1 }
-        ensures no_memory { result ≡ Err SinkFault.NoMemory → taken self.new ≡ taken self.old }
-        ensures later { faults self.old ≤ faults self.new };
+        ensures ok { OnOk result (Takes (log self.old).taken (log self.new).taken bytes.now) }
+        ensures err { OnErr result (TakesFront (log self.old).taken (log self.new).taken bytes.now) }
+        ensures no_memory { result ≡ Err SinkFault.NoMemory → (log self.new).taken ≡ (log self.old).taken }
+        ensures counted { (log self.new).writes ≡ one_more (log self.old).writes }
+        ensures failed { result ≡ Err SinkFault.Failed → Rose (log self.old).faults (log self.new).faults }
+        ensures no_fault { result ≢ Err SinkFault.Failed → (log self.new).faults ≡ (log self.old).faults }
+        ensures at_most_one { (log self.new).faults ≤ (log self.old).faults + 1 }
+        ensures later { (log self.old).faults ≤ (log self.new).faults };
 }

@@ -1,4 +1,4 @@
-ghost use Rattle.std.specs.Prelude.{◌≡◌, ◌<◌, Ok, IfOk, OnErr, length};
+ghost use Rattle.std.specs.Prelude.{◌≡◌, ◌<◌, Ok, IfOk, OnErr};
 
 use crate::failed::{Failed, counted};
 use crate::output::Output;
@@ -30,12 +30,12 @@ impl<'a, P: Print> StandardOutput<'a, P> {
 }
 
 /// The system's answer, where to take none of some bytes is to refuse them.
-fn unless_none(answer: io::Result<usize>, bytes: &[u8]) -> Result<usize, Failed>
-    ensures ok { IfOk result (λ count. (answer ≡ Ok count) × (0 < length bytes.now → 0 < count)) }
-    ensures err { OnErr result (IfOk answer (λ count. (0 < length bytes.now) × (count ≡ 0))) }
+fn unless_none(answer: io::Result<usize>) -> Result<usize, Failed>
+    ensures ok { IfOk result (λ count. (answer ≡ Ok count) × (0 < count)) }
+    ensures err { OnErr result (IfOk answer (λ count. count ≡ 0)) }
 {
     match answer {
-        Ok(count) if count > 0 || bytes.is_empty() => Ok(count),
+        Ok(count) if count > 0 => Ok(count),
         _ => Err(Failed),
     }
 }
@@ -48,9 +48,6 @@ impl<P: Print> Output for StandardOutput<'_, P> {
     ghost faults = { λ s. s };
 
     fn write_some(&mut self, bytes: &[u8]) -> Result<usize, Failed> {
-        counted(
-            unless_none(self.out.write_some(bytes), bytes),
-            &mut self.faults,
-        )
+        counted(unless_none(self.out.write_some(bytes)), &mut self.faults)
     }
 }

@@ -2,6 +2,7 @@ ghost use Rattle.std.specs.Prelude.{◌≡◌, ◌∷◌, [], OnOk, OnErr};
 
 use crate::contents::Contents;
 use crate::files::{FileFault, Files};
+use crate::names::Names;
 use std::alloc::{AllocError, Global};
 use std::marker::Model;
 
@@ -9,7 +10,7 @@ use std::marker::Model;
 #[derive(Drop)]
 pub struct SureFiles {
     contents: Contents,
-    reads: u64,
+    names: Names,
 }
 
 impl Model for SureFiles {
@@ -17,16 +18,16 @@ impl Model for SureFiles {
 
     ghost Value = { HeldSureFiles };
 
-    ghost view = { λ s. record { entries = s.contents; reads = s.reads } };
+    ghost view = { λ s. record { entries = s.contents; names = s.names } };
 }
 
 impl SureFiles {
     pub fn new(alloc: Global) -> SureFiles
-        ensures { result ≡ record { entries = []; reads = 0 } }
+        ensures { result ≡ record { entries = []; names = [] } }
     {
         SureFiles {
             contents: Contents::new(alloc),
-            reads: 0,
+            names: Names::new(alloc),
         }
     }
 
@@ -40,27 +41,29 @@ impl SureFiles {
 }
 
 impl Files for SureFiles {
-    ghost use Rattle.std.specs.Prelude.{◌≡◌, ◌≢◌, ◌<◌, length, Some, IfOk, IfErr};
-    ghost use Rattle.mg_outside.specs.Faults.{one_more};
+    ghost use Rattle.std.specs.Prelude.{◌≡◌, ◌≢◌, ◌<◌, ◌⊎◌, ◌∷◌, ◌++◌, [], length, Some, IfOk, IfErr};
     ghost use Rattle.mg_outside.specs.Memory.{held_by};
-    ghost use Rattle.mg_outside.specs.Reading.{Gives, Explains};
+    ghost use Rattle.mg_outside.specs.Reading.{AddsAtMost, Explains, Gives};
 
     ghost holds = { λ s name. Some (held_by s name) };
 
-    ghost faults = { λ _ _. 0 };
+    ghost log = { λ s. record { names = s.names; faults = λ _. 0 } };
 
-    ghost reads = { λ s. s.reads };
-
-    fn read(&mut self, alloc: Global, name: &str, most: u64) -> Result<Vec<u8>, FileFault>
-        ensures bytes { IfOk result (λ bytes. Gives (Some (held_by self.old name.now)) most bytes.items) }
-        ensures too_long { IfErr result (Explains (Some (held_by self.old name.now)) most) }
-        ensures long { most < length (held_by self.old name.now) → result ≡ Err (FileFault.TooLong (length (held_by self.old name.now))) }
+    fn read(&mut self, alloc: Global, name: &str, max: u64) -> Result<Vec<u8>, FileFault>
+        ensures bytes { IfOk result (λ bytes. Gives (Some (held_by self.old name.now)) max bytes.items) }
+        ensures too_long { IfErr result (Explains (Some (held_by self.old name.now)) max) }
+        ensures named { result ≢ Err FileFault.NoMemory → self.new.names ≡ self.old.names ++ name.now ∷ [] }
+        ensures named_at_most { AddsAtMost self.old.names name.now self.new.names }
+        ensures long { max < length (held_by self.old name.now)
+            → (result ≡ Err (FileFault.TooLong (length (held_by self.old name.now)))) ⊎ (result ≡ Err FileFault.NoMemory) }
         ensures never_fails { result ≢ Err FileFault.Failed }
-        ensures after { self.new ≡ record self.old { reads = one_more self.old.reads } }
+        ensures unchanged { self.new ≡ record self.old { names = self.new.names } }
     {
-        self.reads = self.reads.saturating_add(1);
+        if self.names.push(name).is_err() {
+            return Err(FileFault::NoMemory);
+        }
         match self.contents.find(name) {
-            Some(entry) => entry.read(alloc, most),
+            Some(entry) => entry.read(alloc, max),
             None => Ok(Vec::new(alloc)),
         }
     }

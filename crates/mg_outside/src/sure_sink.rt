@@ -8,28 +8,30 @@ use std::marker::Model;
 #[derive(Drop)]
 pub struct SureSink {
     bytes: Vec<u8>,
+    writes: u64,
 }
 
 impl Model for SureSink {
-    ghost use Rattle.std.specs.Prelude.{List, ℕ};
+    ghost use Rattle.mg_outside.specs.Memory.{HeldSureSink};
 
-    ghost Value = { List ℕ };
+    ghost Value = { HeldSureSink };
 
-    ghost view = { λ s. s.bytes.items };
+    ghost view = { λ s. record { bytes = s.bytes.items; writes = s.writes } };
 }
 
 impl SureSink {
     pub fn new(alloc: Global) -> SureSink
-        ensures { result ≡ [] }
+        ensures { result ≡ record { bytes = []; writes = 0 } }
     {
         SureSink {
             bytes: Vec::new(alloc),
+            writes: 0,
         }
     }
 
     /// All that was taken.
     pub fn bytes(&self) -> &[u8]
-        ensures { result.now ≡ self.now }
+        ensures { result.now ≡ self.now.bytes }
     {
         self.bytes.as_slice()
     }
@@ -38,11 +40,10 @@ impl SureSink {
 impl Sink for SureSink {
     ghost use Rattle.std.specs.Prelude.{Some};
 
-    ghost taken = { λ s. Some s };
-
-    ghost faults = { λ _. 0 };
+    ghost log = { λ s. record { taken = Some s.bytes; writes = s.writes; faults = 0 } };
 
     fn write_all(&mut self, bytes: &[u8]) -> Result<(), SinkFault> {
+        self.writes = self.writes.saturating_add(1);
         match self.bytes.extend_from_slice(bytes) {
             Ok(()) => Ok(()),
             Err(_) => Err(SinkFault::NoMemory),

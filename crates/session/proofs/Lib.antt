@@ -1,0 +1,17 @@
+pub mod Places
+pub mod Known
+pub mod Writing
+pub mod Ends
+pub mod Faults
+pub mod Moves
+pub mod Carried
+pub mod Ordered
+pub mod Completeness
+pub mod Blaming
+pub mod Findings
+pub mod Progress
+pub mod WholeRuns
+pub mod PacketLiterals
+pub mod Scripts
+pub mod Built
+pub mod RulePaths

@@ -1,2 +1,13 @@
 pub mod Value
 pub mod Text
+pub mod Words
+pub mod Library
+pub mod Policies
+pub mod RunLines
+pub mod Steps
+pub mod Run
+pub mod Blame
+pub mod Complete
+pub mod Endings
+pub mod Kept
+pub mod Order

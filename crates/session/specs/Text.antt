@@ -5,11 +5,11 @@ use Rattle.std.specs.List.{flat_map}
 use Rattle.ios_acl.specs.declared.entry.Verdict.{Verdict}
 use Rattle.ios_acl.specs.declared.entry.Verdict.TheVariants as verdict
 use Rattle.ios_config.specs.declared.request.Field.{Field}
-use Rattle.ios_config.specs.Request.{Request, fields}
+use Rattle.ios_config.specs.Request.{Request, field_name, fields}
 use Rattle.frame.specs.declared.question.Test.{Test}
 use Rattle.frame.specs.Question.{passes}
 use Rattle.frame.specs.Scenario.{visible}
-use Rattle.session.specs.Value.{field_name, shown}
+use Rattle.session.specs.Value.{pattern_text, shown}
 
 -- a field and its value
 abbrev pub value_line : Request → Field → List ℕ
@@ -20,15 +20,10 @@ abbrev pub sign : Bool → List ℕ
 sign true = codes "  + "
 sign false = codes "  - "
 
--- a wildcard as its field is written, where a test has one
-abbrev pub wildcard_text : Field → Option ℕ → List ℕ
-wildcard_text f None = codes ""
-wildcard_text f (Some wildcard) = codes " " ++ shown f wildcard
-
 -- a test, and whether the request passes it
 abbrev pub test_line : Request → Test → List ℕ
 test_line request test =
-    sign (passes request test) ++ (field_name test.field ++ (codes " IN " ++ (shown test.field test.value ++ (wildcard_text test.field test.wildcard ++ codes "\n"))))
+    sign (passes request test) ++ (field_name test.field ++ (codes " IN " ++ (pattern_text test.field test.pattern ++ codes "\n")))
 
 -- the first scenario: a line for each field of the request, in their order, and one for each visible test
 unfoldable pub scenario : List Test → Request → List ℕ

@@ -1,28 +1,12 @@
--- How the values of fields are written.
-use Rattle.std.specs.Prelude.{ℕ, Bool, true, false, List, codes}
+-- How the values of fields are written, and the patterns that tests ask of them.
+use Rattle.std.specs.Prelude.{ℕ, Bool, true, false, List, ◌==◌, ◌++◌, codes}
 use Rattle.std.specs.Bool.{if◌then◌else◌}
 use Rattle.std.specs.Fmt.{decimal}
 use Rattle.ios_config.specs.declared.request.Field.{Field}
 use Rattle.ios_config.specs.declared.request.Field.TheVariants as field
 use Rattle.ios_lex.specs.Address.{dotted}
-
--- the name of a field, as tests write it and scenarios print it
-abbrev pub field_name : Field → List ℕ
-field_name field.Entry = codes "entry"
-field_name field.SrcIn = codes "src_in"
-field_name field.DstIn = codes "dst_in"
-field_name field.SportIn = codes "sport_in"
-field_name field.DportIn = codes "dport_in"
-field_name field.Proto = codes "proto"
-field_name field.Flags = codes "flags"
-field_name field.IcmpType = codes "icmp_type"
-field_name field.IcmpCode = codes "icmp_code"
-field_name field.SrcOut = codes "src_out"
-field_name field.DstOut = codes "dst_out"
-field_name field.SportOut = codes "sport_out"
-field_name field.DportOut = codes "dport_out"
-field_name field.NextHop = codes "next_hop"
-field_name field.Exit = codes "exit"
+use Rattle.frame.specs.declared.question.Pattern.{Pattern}
+use Rattle.frame.specs.declared.question.Pattern.TheVariants as pattern
 
 -- whether the values of a field are addresses: the source, the destination and the next hop
 abbrev pub is_address : Field → Bool
@@ -36,3 +20,8 @@ is_address other = false
 -- a value as its field is written: an address with dots, and any other as a number
 abbrev pub shown : Field → ℕ → List ℕ
 shown f value = if is_address f then dotted value else decimal value
+
+-- the numbers of a pattern as its field is written: a value and a wildcard, one number, or the ends of a range
+abbrev pub pattern_text : Field → Pattern → List ℕ
+pattern_text f (pattern.Masked value wildcard) = shown f value ++ (codes " " ++ shown f wildcard)
+pattern_text f (pattern.Range low high) = if low == high then shown f low else shown f low ++ (codes " TO " ++ shown f high)

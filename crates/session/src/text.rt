@@ -4,17 +4,22 @@ ghost use Rattle.std.specs.List.{flat_map};
 ghost use Rattle.ios_config.specs.Request.{fields};
 ghost use Rattle.frame.specs.Scenario.{request_of};
 ghost use Rattle.frame.specs.Question.{passes};
-ghost use Rattle.session.specs.Text.{decision_line, entry_text, loaded_line, scenario, sign, test_line, value_line, verdict_text};
+ghost use Rattle.session.specs.Text.{decision_line, entry_text, loaded_line, no_scenario, scenario, sign, test_line, value_line, verdict_text};
 
 use crate::NoMemory;
-use crate::value::{Shown, field_name};
+use crate::value::{Shown, ShownPattern};
 use frame::{Test, visible};
 use ios_acl::{Packet, Verdict};
 use ios_config::Field;
 use std::alloc::Global;
 
 /// What SHOW ONE writes where there is no scenario.
-pub const NO_SCENARIO: &str = "no scenario\n";
+#[tactic(auto, unfolding(crate::specs::Text::no_scenario))]
+pub fn no_scenario_text() -> &'static str
+    ensures { result.now ≡ no_scenario }
+{
+    "no scenario\n"
+}
 
 /// The fields of a request, in order.
 const FIELDS: [Field; 15] = [
@@ -67,7 +72,7 @@ fn push_values(
 fn value_text(alloc: Global, packet: &Packet, field: Field) -> Result<String, NoMemory>
     ensures { IfOk result (λ text. string_bytes text ≡ value_line (request_of packet.now) field) }
 {
-    let name = field_name(field);
+    let name = field.name();
     let value = Shown {
         field,
         value: value_of(packet, field),
@@ -96,38 +101,23 @@ fn test_text(alloc: Global, packet: &Packet, test: &Test) -> Result<String, NoMe
     ensures { IfOk result (λ text. string_bytes text ≡ test_line (request_of packet.now) test.now) }
 {
     let sign = sign_of(packet, test);
-    let name = field_name(test.field);
-    let value = Shown {
+    let name = test.field.name();
+    let pattern = ShownPattern {
         field: test.field,
-        value: test.value,
+        pattern: test.pattern,
     };
-    match test.wildcard {
-        None => format!(in alloc; "{sign}{name} IN {value}\n"),
-        Some(wildcard) => {
-            let wildcard = Shown {
-                field: test.field,
-                value: wildcard,
-            };
-            format!(in alloc; "{sign}{name} IN {value} {wildcard}\n")
-        }
-    }
+    format!(in alloc; "{sign}{name} IN {pattern}\n")
 }
 
 /// The sign of a test that the packet passes or not.
 fn sign_of(packet: &Packet, test: &Test) -> &'static str
     ensures { result.now ≡ sign (passes (request_of packet.now) test.now) }
 {
-    if passes(packet, test) { "  + " } else { "  - " }
-}
-
-/// Whether the packet passes the test.
-fn passes(packet: &Packet, test: &Test) -> bool
-    ensures { result ≡ passes (request_of packet.now) test.now }
-{
     let value = value_of(packet, test.field);
-    match test.wildcard {
-        None => value == test.value,
-        Some(wildcard) => (value ^ test.value) | wildcard == wildcard,
+    if test.pattern.accepts(value) {
+        "  + "
+    } else {
+        "  - "
     }
 }
 

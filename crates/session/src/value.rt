@@ -1,6 +1,7 @@
 ghost use Rattle.std.specs.Prelude.{◌≡◌};
-ghost use Rattle.session.specs.Value.{field_name, is_address};
+ghost use Rattle.session.specs.Value.{is_address};
 
+use frame::Pattern;
 use ios_config::Field;
 use ios_lex::Dotted;
 use std::fmt;
@@ -29,6 +30,43 @@ impl fmt::Display for Shown {
     }
 }
 
+/// A pattern as its field is written.
+#[derive(Clone, Copy, Debug)]
+pub(crate) struct ShownPattern {
+    pub(crate) field: Field,
+    pub(crate) pattern: Pattern,
+}
+
+impl fmt::Display for ShownPattern {
+    ghost use Rattle.std.specs.Prelude.{Some};
+    ghost use Rattle.session.specs.Value.{pattern_text};
+
+    ghost output = { λ s. Some (pattern_text s.field s.pattern) };
+
+    fn fmt<W: fmt::Write>(&self, f: &mut fmt::Formatter<W>) -> fmt::Result {
+        let field = self.field;
+        match self.pattern {
+            Pattern::Masked { value, wildcard } => {
+                let value = Shown { field, value };
+                let wildcard = Shown {
+                    field,
+                    value: wildcard,
+                };
+                write!(f, "{value} {wildcard}")
+            }
+            Pattern::Range { low, high } if low == high => {
+                let value = Shown { field, value: low };
+                write!(f, "{value}")
+            }
+            Pattern::Range { low, high } => {
+                let low = Shown { field, value: low };
+                let high = Shown { field, value: high };
+                write!(f, "{low} TO {high}")
+            }
+        }
+    }
+}
+
 /// Whether the values of the field are addresses.
 fn is_address(field: Field) -> bool
     ensures { result ≡ is_address field }
@@ -45,28 +83,5 @@ fn is_address(field: Field) -> bool
         | Field::SportOut
         | Field::DportOut
         | Field::Exit => false,
-    }
-}
-
-/// The name of the field.
-pub fn field_name(field: Field) -> &'static str
-    ensures { result.now ≡ field_name field }
-{
-    match field {
-        Field::Entry => "entry",
-        Field::SrcIn => "src_in",
-        Field::DstIn => "dst_in",
-        Field::SportIn => "sport_in",
-        Field::DportIn => "dport_in",
-        Field::Proto => "proto",
-        Field::Flags => "flags",
-        Field::IcmpType => "icmp_type",
-        Field::IcmpCode => "icmp_code",
-        Field::SrcOut => "src_out",
-        Field::DstOut => "dst_out",
-        Field::SportOut => "sport_out",
-        Field::DportOut => "dport_out",
-        Field::NextHop => "next_hop",
-        Field::Exit => "exit",
     }
 }

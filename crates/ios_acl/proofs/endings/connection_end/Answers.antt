@@ -1,6 +1,6 @@
 use Rattle.std.proofs.Common.{◌≡◌, ℕ, List, ◌∷◌, sym, ◌∙◌, rules, arith, codes}
-use Rattle.ios_acl.specs.Phrases.{Words}
 use Rattle.std.proofs.lemmas.Slice.Eq.{bytes_eq-Decides}
+use Rattle.ios_lex.specs.Phrases.{Words}
 use Rattle.ios_acl.specs.Stops.{IsStop}
 use Rattle.ios_acl.specs.Parts.{SomeConnectionEnd}
 use Rattle.ios_acl.proofs.EndWords.{connection, stop_behind_established, stop_not_established}

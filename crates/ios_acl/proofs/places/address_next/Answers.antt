@@ -1,7 +1,7 @@
 use Rattle.std.proofs.Common.{◌≡◌, [], ◌∷◌, rules}
 use Rattle.std.proofs.lemmas.List.{nil_from_length}
+use Rattle.ios_lex.proofs.FirstStops.{lacks_none, lacks_word}
 use Rattle.ios_acl.specs.Parts.{SomeAddress}
-use Rattle.ios_acl.proofs.FirstStops.{lacks_none, lacks_word}
 use Rattle.ios_acl.proofs.PlaceForms.{address_read, address_stop, no_address_begins}
 use Rattle.ios_acl.proofs.places.address_next.Goals as goal
 

@@ -3,10 +3,10 @@ use Rattle.std.specs.Str.{bytes_eq}
 use Rattle.std.proofs.lemmas.List.{nil_from_length}
 use Rattle.std.proofs.lemmas.Result.{err_from_is_err_and}
 use Rattle.ios_lex.specs.Address.{IsAddress}
+use Rattle.ios_lex.proofs.FirstStops.{lacks_none, lacks_word, begins_with_text}
+use Rattle.ios_lex.proofs.WordForms.{words_differ}
 use Rattle.ios_acl.specs.Parts.{SomePlace}
-use Rattle.ios_acl.proofs.FirstStops.{lacks_none, lacks_word, begins_with_text}
 use Rattle.ios_acl.proofs.PlaceForms.{any_read, host_read, some_read, place_stop, host_stop, some_stop, no_place_begins}
-use Rattle.ios_acl.proofs.WordForms.{words_differ}
 use Rattle.ios_acl.proofs.places.place.Goals as goal
 
 pub returns-in_default-clause-stop : goal.returns-in_default-clause-stop

@@ -3,10 +3,10 @@ use Rattle.std.specs.Str.{bytes_eq}
 use Rattle.std.proofs.lemmas.List.{nil_from_length}
 use Rattle.std.proofs.lemmas.Result.{err_from_is_err_and}
 use Rattle.ios_lex.specs.Address.{IsAddress}
+use Rattle.ios_lex.proofs.FirstStops.{begins_with_text, lacks_none, lacks_word}
+use Rattle.ios_lex.proofs.WordForms.{words_differ}
 use Rattle.ios_acl.specs.Parts.{SomeSourceEnd}
-use Rattle.ios_acl.proofs.FirstStops.{begins_with_text, lacks_none, lacks_word}
 use Rattle.ios_acl.proofs.SourceForms.{source_any, source_host, source_address, no_source_begins, source_stop, source_any_stop, source_host_stop, source_host_end_stop, source_address_stop}
-use Rattle.ios_acl.proofs.WordForms.{words_differ}
 use Rattle.ios_acl.proofs.places.source_end.Goals as goal
 
 pub returns-in_default-clause-stop : goal.returns-in_default-clause-stop

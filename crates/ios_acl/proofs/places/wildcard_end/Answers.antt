@@ -2,9 +2,9 @@ use Rattle.std.proofs.Common.{◌≡◌, true, false, codes, rules}
 use Rattle.std.specs.Str.{bytes_eq}
 use Rattle.std.proofs.lemmas.Result.{err_from_is_err_and}
 use Rattle.ios_lex.specs.Address.{IsAddress}
-use Rattle.ios_acl.proofs.FirstStops.{begins_with_text}
+use Rattle.ios_lex.proofs.FirstStops.{begins_with_text}
+use Rattle.ios_lex.proofs.WordForms.{words_differ}
 use Rattle.ios_acl.proofs.WildcardForms.{wildcard_some, wildcard_stop, wildcard_log_stop, wildcard_end_stop}
-use Rattle.ios_acl.proofs.WordForms.{words_differ}
 use Rattle.ios_acl.proofs.places.wildcard_end.Goals as goal
 
 pub returns-in_err-end-clause-stop : goal.returns-in_err-end-clause-stop

@@ -1,10 +1,10 @@
 use Rattle.std.proofs.Common.{◌≡◌, [], true, false, codes, rules}
 use Rattle.std.specs.Str.{bytes_eq}
 use Rattle.std.proofs.lemmas.List.{nil_from_length}
+use Rattle.ios_lex.proofs.FirstStops.{begins_with_text, lacks_none, lacks_word}
+use Rattle.ios_lex.proofs.WordForms.{words_differ}
 use Rattle.ios_acl.specs.Parts.{SomeProto}
-use Rattle.ios_acl.proofs.FirstStops.{begins_with_text, lacks_none, lacks_word}
 use Rattle.ios_acl.proofs.ProtocolWords.{every_read, no_proto_begins, proto_stop, protocol_read}
-use Rattle.ios_acl.proofs.WordForms.{words_differ}
 use Rattle.ios_acl.proofs.spelled.proto_next.Goals as goal
 
 pub returns-in_default-clause-stop : goal.returns-in_default-clause-stop

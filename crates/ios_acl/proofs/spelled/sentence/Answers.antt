@@ -1,11 +1,11 @@
 use Rattle.std.proofs.Common.{◌≡◌, [], true, false, codes, rules}
 use Rattle.std.specs.Str.{bytes_eq}
 use Rattle.std.proofs.lemmas.List.{nil_from_length}
+use Rattle.ios_lex.proofs.FirstStops.{begins_with_text, lacks_none, lacks_word}
+use Rattle.ios_lex.proofs.WordForms.{words_differ}
 use Rattle.ios_acl.specs.Reading.{Sentence}
 use Rattle.ios_acl.specs.Stops.{IsStop}
-use Rattle.ios_acl.proofs.FirstStops.{begins_with_text, lacks_none, lacks_word}
 use Rattle.ios_acl.proofs.Sentences.{extended_read, no_sentence_begins, remark_read, sentence_stop, standard_read, stop_in_extended, stop_in_standard}
-use Rattle.ios_acl.proofs.WordForms.{words_differ}
 use Rattle.ios_acl.proofs.spelled.sentence.Goals as goal
 
 pub returns-in_default-clause-stop : goal.returns-in_default-clause-stop

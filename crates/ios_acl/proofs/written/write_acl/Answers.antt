@@ -1,8 +1,8 @@
 use Rattle.std.proofs.Common.{◌≡◌, ◌<◌, ◌++◌, length, ap, ◌∙◌, arith}
 use Rattle.std.proofs.lemmas.List.{take_all}
-use Rattle.ios_acl.specs.Spelling.{opening_line}
-use Rattle.ios_acl.proofs.BlockTexts.{entry_lines, lines_more}
-use Rattle.ios_acl.proofs.WrittenBlocks.{written_block}
+use Rattle.ios_acl.specs.Spelling.{opening_line, entry_lines}
+use Rattle.ios_acl.proofs.BlockTexts.{lines_more}
+use Rattle.ios_acl.proofs.WrittenBlocks.{whole_text, written_block}
 use Rattle.ios_acl.proofs.written.write_acl.Goals as goal
 
 pub loop-entry-preserved : goal.loop-entry-preserved
@@ -16,4 +16,5 @@ returns c =
     let text : c.loop-entry.text.items ≡ opening_line c.args.acl.now.extended c.args.acl.now.name ++ entry_lines c.args.acl.now.extended c.args.acl.now.entries =
     c.loop-entry.invariant ∙ ap (λ es. opening_line c.args.acl.now.extended c.args.acl.now.name ++ entry_lines c.args.acl.now.extended es)
     (take_all c.loop-entry.entry-index c.entries-entry-items.result.now (omega arith) ∙ c.entries-entry-items.ensures.entries) in
-    record { block = rw text (written_block c.args.acl.now c.entries-entry-items.ensures.whole c.requires.name) }
+    let written = whole_text c.args.acl.now c.loop-entry.text.items text in
+    record { block = rw written (written_block c.args.acl.now c.entries-entry-items.ensures.whole c.requires.name); text = written }

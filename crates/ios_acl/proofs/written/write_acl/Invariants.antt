@@ -1,6 +1,5 @@
 use Rattle.std.proofs.Common.{◌≡◌, ◌++◌, take}
-use Rattle.ios_acl.specs.Spelling.{opening_line}
-use Rattle.ios_acl.proofs.BlockTexts.{entry_lines}
+use Rattle.ios_acl.specs.Spelling.{opening_line, entry_lines}
 use Rattle.ios_acl.proofs.written.write_acl.Given as goal
 
 abbrev pub invariant-loop-entry : goal.invariant-loop-entry

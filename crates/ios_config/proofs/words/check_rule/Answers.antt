@@ -1,7 +1,8 @@
 use Rattle.std.proofs.Common.{◌≡◌, ◌∷◌, [], false, true, codes, sym, ◌∙◌, rules}
 use Rattle.std.proofs.lemmas.List.{nil_from_length}
 use Rattle.ios_lex.specs.declared.reason.IosReason.TheVariants as ios
-use Rattle.ios_acl.specs.Refusal.{is_among, unmodelled}
+use Rattle.ios_lex.specs.Refusal.{is_among}
+use Rattle.ios_acl.specs.Refusal.{unmodelled}
 use Rattle.ios_config.specs.Line.{rule_words}
 use Rattle.ios_config.specs.Taking.{IsNoRule, no_rule, not_modelled, other}
 use Rattle.ios_config.proofs.AclFaults.{fault_for}

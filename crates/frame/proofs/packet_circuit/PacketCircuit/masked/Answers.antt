@@ -1,5 +1,5 @@
 use Rattle.std.proofs.Common.{◌∙◌, ap}
-use Rattle.circuit.specs.Number.{agrees}
+use Rattle.bit_patterns.specs.Patterns.{agrees}
 use Rattle.frame.specs.Bits.{field_bits}
 use Rattle.frame.proofs.Nodes.{HasBits-extends, field_adds, inputs_after}
 use Rattle.frame.proofs.packet_circuit.PacketCircuit.masked.Goals as goal

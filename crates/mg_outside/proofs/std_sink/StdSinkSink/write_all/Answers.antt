@@ -11,5 +11,6 @@ loop-rest-preserved g c =
       front = before.front ++ take count rest;
       whole = front_moves count _ before.front rest _ before.whole (omega arith);
       taken = Takes-then _ _ _ _ _ before.taken c.in-Ok.ensures.front;
+      counted = search rules;
       calm = search rules;
     }

@@ -1,0 +1,4 @@
+pub mod Questions
+pub mod Mentions
+pub mod Ranges
+pub mod Shapes

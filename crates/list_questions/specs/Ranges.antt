@@ -1,0 +1,45 @@
+-- Which numbers are numbers of a field.
+use Rattle.std.specs.Prelude.{◌≡◌, ◌&&◌, ◌^◌, ℕ, Bool, nat_lt, nat_le, List, ◌∷◌, Option, Some, None, map, if◌then◌else◌}
+use Rattle.ios_acl.specs.declared.packet.Packet.{Packet}
+use Rattle.ios_config.specs.declared.request.Field.{Field}
+use Rattle.ios_config.specs.Request.{bits, packet_fields}
+use Rattle.frame.specs.declared.question.Pattern.TheVariants as pattern
+use Rattle.frame.specs.declared.question.Test.{Test}
+use Rattle.frame.specs.Scenario.{request_of}
+use Rattle.query_lang.specs.declared.literal.Literal.{Literal}
+use Rattle.query_lang.specs.declared.literal.Literal.TheVariants as literal
+use Rattle.list_questions.specs.declared.field_test.FieldTest.{FieldTest}
+use Rattle.list_questions.specs.declared.field_test.FieldTest.TheVariants as field_test
+use Rattle.list_questions.specs.declared.packet.LiteralFault.{LiteralFault}
+use Rattle.list_questions.specs.declared.packet.LiteralFault.TheVariants as fault
+
+abbrev pub is_number_of : Field → ℕ → Bool
+is_number_of f number = nat_lt number (2 ^ bits f)
+
+-- the numbers of the test are its field's, and a range does not end before it begins
+abbrev pub test_fits : FieldTest → Bool
+test_fits (field_test.Masked f value wildcard) = is_number_of f value && is_number_of f wildcard
+test_fits (field_test.Range f lo hi) = is_number_of f lo && is_number_of f hi && nat_le lo hi
+
+-- why a literal is no number of the field; no interface has a name yet
+abbrev pub fault_of : Field → Literal → Option LiteralFault
+fault_of f (literal.Number number) = if is_number_of f number then None else Some fault.OutOfRange
+fault_of f (literal.Interface name) = Some fault.UnknownName
+
+abbrev pub or_later : Option LiteralFault → Option LiteralFault → Option LiteralFault
+or_later (Some first) later = Some first
+or_later None later = later
+
+-- the first literal from the left that is no number of its field, and why
+abbrev pub literal_fault : List Field → List Literal → Option LiteralFault
+literal_fault (f ∷ fields) (l ∷ literals) = or_later (fault_of f l) (literal_fault fields literals)
+literal_fault fields literals = None
+
+-- the literals are the numbers of the packet, in order
+abbrev pub ArePacket : List Literal → Packet → Type 0
+ArePacket literals packet = literals ≡ map (λ f. literal.Number (request_of packet f)) packet_fields
+
+-- the same test, as a question is asked with it
+abbrev pub test_of : FieldTest → Test
+test_of (field_test.Masked f value wildcard) = record { field = f; pattern = pattern.Masked value wildcard }
+test_of (field_test.Range f lo hi) = record { field = f; pattern = pattern.Range lo hi }

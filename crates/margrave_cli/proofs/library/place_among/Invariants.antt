@@ -1,8 +1,0 @@
-use Rattle.std.proofs.Common.{◌≡◌, drop}
-use Rattle.std.specs.List.{filter}
-use Rattle.margrave_cli.specs.Library.{is_defined, list_among}
-use Rattle.margrave_cli.proofs.library.place_among.Given as goal
-
--- the list is none of those so far
-abbrev pub invariant-loop-place : goal.invariant-loop-place
-invariant-loop-place l = list_among (filter is_defined (drop l.place l.lists)) l.name ≡ list_among (filter is_defined l.lists) l.name

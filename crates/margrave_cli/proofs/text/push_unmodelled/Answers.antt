@@ -1,8 +1,0 @@
-use Rattle.std.proofs.Common.{◌∙◌, ◌++◌, ap, append_assoc, codes}
-use Rattle.margrave_cli.proofs.text.push_unmodelled.Goals as goal
-
-pub returns : goal.returns
-returns c =
-    c.in_ok-extend_from_slice-2.ensures.items
-    ∙ ap (λ text. text ++ c.args.word.now) c.in_ok-extend_from_slice.ensures.items
-    ∙ append_assoc c.args.text.now.items (codes "Unmodelled ") c.args.word.now

@@ -1,0 +1,12 @@
+pub mod Rules
+pub mod Words
+pub mod Chains
+pub mod Literals
+pub mod Paths
+pub mod Terms
+pub mod Formulas
+pub mod Statements
+pub mod Scripts
+pub mod Refusal
+pub mod Readings
+pub mod Machine

@@ -1,0 +1,5 @@
+pub mod Due
+pub mod Steps
+pub mod Outcome
+pub mod Going
+pub mod Tests

@@ -1,0 +1,10 @@
+pub mod Longest
+pub mod Beginnings
+pub mod Digits
+pub mod KeywordTable
+pub mod FirstTokens
+pub mod Scanned
+pub mod OneToken
+pub mod OneList
+pub mod KeywordTexts
+pub mod WrittenLines

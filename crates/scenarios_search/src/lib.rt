@@ -1,0 +1,11 @@
+//! Tests of what searches: circuits and their least inputs (`circuit`), and the first request that answers a question
+//! about an access list (`frame`), a module for each crate that is tested.
+//!
+//! A test of circuits makes one and compares its least inputs, as one text, with those that were worked by hand. A test of
+//! questions is a table of rows, ` => ` between the question and its packet. Nothing stands above this crate.
+#![tactic(auto)]
+
+#[cfg(test)]
+mod circuits;
+#[cfg(test)]
+mod questions;
