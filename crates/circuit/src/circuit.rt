@@ -52,7 +52,8 @@ impl Circuit {
     pub fn input(&mut self) -> Result<Node, NoMemory>
         ensures node { IfOk result (λ node. node ≡ length self.old) }
         ensures circuit { OnOk result (self.new ≡ with_input self.old) }
-        ensures value { IfOk result (λ node. (inputs : List Bool) → node_value self.new inputs node ≡ value_at inputs (input_count self.old)) }
+        ensures value { IfOk result (λ node. (inputs : List Bool) → node_value self.new inputs node
+            ≡ value_at inputs (input_count self.old)) }
         ensures older { Extends self.old self.new }
         ensures err { OnErr result (self.new ≡ self.old) }
     {
@@ -68,7 +69,8 @@ impl Circuit {
         requires { AreNodes self.old parts.now }
         ensures node { IfOk result (λ node. node ≡ length self.old) }
         ensures circuit { OnOk result (self.new ≡ with_gate self.old (gate.And parts.now)) }
-        ensures value { IfOk result (λ node. (inputs : List Bool) → node_value self.new inputs node ≡ list_all (node_value self.old inputs) parts.now) }
+        ensures value { IfOk result (λ node. (inputs : List Bool) → node_value self.new inputs node
+            ≡ list_all (node_value self.old inputs) parts.now) }
         ensures older { Extends self.old self.new }
         ensures err { OnErr result (self.new ≡ self.old) }
     {
@@ -82,7 +84,8 @@ impl Circuit {
         requires { AreNodes self.old parts.now }
         ensures node { IfOk result (λ node. node ≡ length self.old) }
         ensures circuit { OnOk result (self.new ≡ with_gate self.old (gate.Or parts.now)) }
-        ensures value { IfOk result (λ node. (inputs : List Bool) → node_value self.new inputs node ≡ list_any (node_value self.old inputs) parts.now) }
+        ensures value { IfOk result (λ node. (inputs : List Bool) → node_value self.new inputs node
+            ≡ list_any (node_value self.old inputs) parts.now) }
         ensures older { Extends self.old self.new }
         ensures err { OnErr result (self.new ≡ self.old) }
     {
@@ -96,7 +99,8 @@ impl Circuit {
         requires { part < length self.old }
         ensures node { IfOk result (λ node. node ≡ length self.old) }
         ensures circuit { OnOk result (self.new ≡ with_gate self.old (gate.Not part)) }
-        ensures value { IfOk result (λ node. (inputs : List Bool) → node_value self.new inputs node ≡ not (node_value self.old inputs part)) }
+        ensures value { IfOk result (λ node. (inputs : List Bool) → node_value self.new inputs node
+            ≡ not (node_value self.old inputs part)) }
         ensures older { Extends self.old self.new }
         ensures err { OnErr result (self.new ≡ self.old) }
     {
@@ -109,7 +113,9 @@ impl Circuit {
         requires { AreNodes self.old (condition ∷ a ∷ b ∷ []) }
         ensures node { IfOk result (λ node. node ≡ length self.old) }
         ensures circuit { OnOk result (self.new ≡ with_gate self.old (gate.Ite condition a b)) }
-        ensures value { IfOk result (λ node. (inputs : List Bool) → node_value self.new inputs node ≡ (if node_value self.old inputs condition then node_value self.old inputs a else node_value self.old inputs b)) }
+        ensures value { IfOk result (λ node. (inputs : List Bool) → node_value self.new inputs node
+            ≡ (if node_value self.old inputs condition
+            then node_value self.old inputs a else node_value self.old inputs b)) }
         ensures older { Extends self.old self.new }
         ensures err { OnErr result (self.new ≡ self.old) }
     {
@@ -125,7 +131,8 @@ impl Circuit {
         ensures last { IfOk result (λ node. length self.new ≡ node + 1) }
         ensures inputs { OnOk result (input_count self.new ≡ input_count self.old) }
         ensures circuit { OnOk result (self.new ≡ with_masked self.old bits.now value wildcard) }
-        ensures value { IfOk result (λ node. (inputs : List Bool) → node_value self.new inputs node ≡ agrees (number (map (node_value self.old inputs) bits.now)) value wildcard) }
+        ensures value { IfOk result (λ node. (inputs : List Bool) → node_value self.new inputs node
+            ≡ agrees (number (map (node_value self.old inputs) bits.now)) value wildcard) }
         ensures older { Extends self.old self.new }
         ensures err { OnErr result (self.new ≡ self.old) }
     {
@@ -144,7 +151,8 @@ impl Circuit {
         ensures last { IfOk result (λ node. length self.new ≡ node + 1) }
         ensures inputs { OnOk result (input_count self.new ≡ input_count self.old) }
         ensures circuit { OnOk result (self.new ≡ with_range self.old bits.now lo hi) }
-        ensures value { IfOk result (λ node. (inputs : List Bool) → node_value self.new inputs node ≡ within lo hi (number (map (node_value self.old inputs) bits.now))) }
+        ensures value { IfOk result (λ node. (inputs : List Bool) → node_value self.new inputs node
+            ≡ within lo hi (number (map (node_value self.old inputs) bits.now))) }
         ensures older { Extends self.old self.new }
         ensures err { OnErr result (self.new ≡ self.old) }
     {
@@ -163,8 +171,12 @@ impl Circuit {
         ensures last { IfOk result (λ node. length self.new ≡ node + 1) }
         ensures inputs { OnOk result (input_count self.new ≡ input_count self.old) }
         ensures circuit { OnOk result (self.new ≡ with_equal self.old a.now b.now) }
-        ensures value { IfOk result (λ node. (inputs : List Bool) → node_value self.new inputs node ≡ (number (map (node_value self.old inputs) a.now) == number (map (node_value self.old inputs) b.now))) }
-        ensures same { IfOk result (λ node. (inputs : List Bool) → (node_value self.new inputs node ≡ true) ↔ (map (node_value self.old inputs) a.now ≡ map (node_value self.old inputs) b.now)) }
+        ensures value { IfOk result (λ node. (inputs : List Bool) → node_value self.new inputs node
+            ≡ (number (map (node_value self.old inputs) a.now)
+            == number (map (node_value self.old inputs) b.now))) }
+        ensures same { IfOk result (λ node. (inputs : List Bool)
+            → (node_value self.new inputs node ≡ true)
+            ↔ (map (node_value self.old inputs) a.now ≡ map (node_value self.old inputs) b.now)) }
         ensures older { Extends self.old self.new }
         ensures err { OnErr result (self.new ≡ self.old) }
     {
@@ -187,7 +199,8 @@ impl Circuit {
         requires kind { is_input gate ≡ false }
         ensures node { IfOk result (λ node. node ≡ length self.old) }
         ensures circuit { OnOk result (self.new ≡ with_gate self.old gate) }
-        ensures value { IfOk result (λ node. (inputs : List Bool) → node_value self.new inputs node ≡ gate_value inputs (values self.old inputs) gate) }
+        ensures value { IfOk result (λ node. (inputs : List Bool) → node_value self.new inputs node
+            ≡ gate_value inputs (values self.old inputs) gate) }
         ensures older { Extends self.old self.new }
         ensures err { OnErr result (self.new ≡ self.old) }
     {

@@ -9,11 +9,19 @@ ghost use Rattle.circuit.specs.Value.{AreNodes, Extends, IsCircuit, gate_value, 
 /// them: the last node of a test is the test on the numbers of its bits, and older nodes keep their values.
 pub fn gates_are_tests()
     ensures older { (gates more : List Gate) → Extends gates (gates ++ more) }
-    ensures gate { (gates : List Gate) (inputs : List Bool) (g : Gate) → node_value (with_gate gates g) inputs (length gates) ≡ gate_value inputs (values gates inputs) g }
-    ensures masked { (gates : List Gate) (inputs : List Bool) (bits : List ℕ) (wanted wildcard : ℕ) → AreNodes gates bits
-        → node_value (with_masked gates bits wanted wildcard) inputs (length gates + 2) ≡ agrees (number (map (node_value gates inputs) bits)) wanted wildcard }
-    ensures range { (gates : List Gate) (inputs : List Bool) (bits : List ℕ) (lo hi : ℕ) → IsCircuit gates → AreNodes gates bits
-        → node_value (with_range gates bits lo hi) inputs (length gates + (2 * length bits + 5)) ≡ within lo hi (number (map (node_value gates inputs) bits)) }
-    ensures equal { (gates : List Gate) (inputs : List Bool) (a b : List ℕ) → IsCircuit gates → AreNodes gates a → AreNodes gates b → length a ≡ length b
-        → node_value (with_equal gates a b) inputs (length gates + 2 * length a) ≡ (number (map (node_value gates inputs) a) == number (map (node_value gates inputs) b)) }
+    ensures gate { (gates : List Gate) (inputs : List Bool) (g : Gate)
+        → node_value (with_gate gates g) inputs (length gates)
+        ≡ gate_value inputs (values gates inputs) g }
+    ensures masked { (gates : List Gate) (inputs : List Bool) (bits : List ℕ) (wanted wildcard : ℕ)
+        → AreNodes gates bits
+        → node_value (with_masked gates bits wanted wildcard) inputs (length gates + 2)
+        ≡ agrees (number (map (node_value gates inputs) bits)) wanted wildcard }
+    ensures range { (gates : List Gate) (inputs : List Bool) (bits : List ℕ) (lo hi : ℕ)
+        → IsCircuit gates → AreNodes gates bits
+        → node_value (with_range gates bits lo hi) inputs (length gates + (2 * length bits + 5))
+        ≡ within lo hi (number (map (node_value gates inputs) bits)) }
+    ensures equal { (gates : List Gate) (inputs : List Bool) (a b : List ℕ) → IsCircuit gates
+        → AreNodes gates a → AreNodes gates b → length a ≡ length b
+        → node_value (with_equal gates a b) inputs (length gates + 2 * length a)
+        ≡ (number (map (node_value gates inputs) a) == number (map (node_value gates inputs) b)) }
 {}

@@ -15,8 +15,10 @@ use std::alloc::Global;
 /// None where no inputs do.
 pub fn least(alloc: Global, circuit: &Circuit, root: Node) -> Result<Option<Vec<bool>>, NoMemory>
     requires { root < length circuit.now }
-    ensures found { IfOk result (λ answer. IfSome answer (λ inputs. IsLeast circuit.now root inputs.items)) }
-    ensures none { IfOk result (λ answer. IfNone answer ((inputs : List Bool) → Satisfies circuit.now root inputs → ⊥)) }
+    ensures found { IfOk result
+        (λ answer. IfSome answer (λ inputs. IsLeast circuit.now root inputs.items)) }
+    ensures none { IfOk result (λ answer. IfNone answer
+        ((inputs : List Bool) → Satisfies circuit.now root inputs → ⊥)) }
 {
     let gates = circuit.gates();
     let mut inputs = Vec::new(alloc);
@@ -53,7 +55,8 @@ impl Search<'_> {
         requires question { IsQuestion self.now.gates.now self.now.root self.now.support.now }
         requires table { table.now ≡ settled self.now.gates.now chosen.old.items }
         requires few { length chosen.old.items ≤ input_count self.now.gates.now }
-        ensures { IfOk result (Finds self.now.gates.now self.now.root chosen.old.items chosen.old.items chosen.new.items) }
+        ensures { IfOk result (Finds self.now.gates.now self.now.root
+            chosen.old.items chosen.old.items chosen.new.items) }
     {
         match table.values()[self.root] {
             Some(true) => {
@@ -71,7 +74,8 @@ impl Search<'_> {
         requires question { IsQuestion self.now.gates.now self.now.root self.now.support.now }
         requires table { table.now ≡ settled self.now.gates.now chosen.old.items }
         requires few { length chosen.old.items < input_count self.now.gates.now }
-        ensures { IfOk result (Finds self.now.gates.now self.now.root chosen.old.items chosen.old.items chosen.new.items) }
+        ensures { IfOk result (Finds self.now.gates.now self.now.root
+            chosen.old.items chosen.old.items chosen.new.items) }
     {
         if self.choose(table, chosen, false)? {
             return Ok(true);
@@ -93,7 +97,8 @@ impl Search<'_> {
         requires question { IsQuestion self.now.gates.now self.now.root self.now.support.now }
         requires table { table.now ≡ settled self.now.gates.now chosen.old.items }
         requires few { length chosen.old.items < input_count self.now.gates.now }
-        ensures { IfOk result (Finds self.now.gates.now self.now.root (chosen.old.items ++ value ∷ []) chosen.old.items chosen.new.items) }
+        ensures { IfOk result (Finds self.now.gates.now self.now.root
+            (chosen.old.items ++ value ∷ []) chosen.old.items chosen.new.items) }
     {
         chosen.push(value)?;
         let next = table.settle(self.alloc, self.gates, chosen.as_slice())?;

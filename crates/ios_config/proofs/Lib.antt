@@ -14,3 +14,5 @@ pub mod OneLine
 pub mod OneConfig
 pub mod SomeReading
 pub mod OneBlock
+pub mod AddedNames
+pub mod SourceCases

@@ -4,3 +4,6 @@ pub mod Line
 pub mod Reading
 pub mod Faults
 pub mod Taking
+pub mod Names
+pub mod Sources
+pub mod Choices

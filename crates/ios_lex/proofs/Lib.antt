@@ -28,3 +28,4 @@ pub mod SomeStop
 pub mod Among
 pub mod ListNumbers
 pub mod WordForms
+pub mod NextWordForms

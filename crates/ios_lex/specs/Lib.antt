@@ -13,3 +13,4 @@ pub mod Following
 pub mod Refusal
 pub mod Stops
 pub mod ListNames
+pub mod NextWords

@@ -17,7 +17,7 @@ expected_of due.Keyword = expecting false false false false
 expected_of due.Address = expecting true false false false
 expected_of due.AddressOrEnd = expecting true false false true
 expected_of due.AddressOrNumberOrEnd = expecting true true false true
-expected_of due.AddressOrName = expecting true false false false
+expected_of due.Name = expecting true true false false
 expected_of due.Mask = expecting true false false false
 expected_of due.Number = expecting false true false false
 expected_of due.Order = expecting false true false false
@@ -27,7 +27,7 @@ expected_of due.Nothing = expecting false false false true
 
 -- a line that is lax goes on with the word
 abbrev pub is_lax : Due → Bool
-is_lax due.AddressOrName = true
+is_lax due.Name = true
 is_lax due.Mask = true
 is_lax due.Order = true
 is_lax due.Keyword = false

@@ -43,7 +43,8 @@ impl From<AllocError> for LexFault {
 
 /// The lines of a configuration, without the empty ones and the comments outside its banners.
 pub fn lines(alloc: Global, bytes: &[u8]) -> Result<Vec<Line>, LexFault>
-    ensures read { IfOk result (λ lines. AreLines 1 (raw_lines bytes.now) (map reading_of lines.items)) }
+    ensures read { IfOk result
+        (λ lines. AreLines 1 (raw_lines bytes.now) (map reading_of lines.items)) }
     ensures unclosed { IfErr result (IsFault bytes.now) }
 {
     let mut lines = Vec::new(alloc);
@@ -72,8 +73,10 @@ fn add_part<'a>(
     ensures part { IfOk result (λ end. IfSome end (λ at. (gives : List Reading)
         × IsPart number (line.now ∷ raw_lines others.now) gives at.0 (raw_lines at.1.now)
         × (map reading_of lines.new.items ≡ map reading_of lines.old.items ++ gives))) }
-    ensures shorter { IfOk result (λ end. IfSome end (λ at. at.0 + length at.1.now ≤ number + 1 + length others.now)) }
-    ensures shorter_text { IfOk result (λ end. IfSome end (λ at. length at.1.now ≤ length others.now)) }
+    ensures shorter { IfOk result
+        (λ end. IfSome end (λ at. at.0 + length at.1.now ≤ number + 1 + length others.now)) }
+    ensures shorter_text { IfOk result
+        (λ end. IfSome end (λ at. length at.1.now ≤ length others.now)) }
     ensures open_ended { IfOk result (λ end. IfNone end (IsOpen line.now (raw_lines others.now))) }
 {
     let Some(text) = opened(line) else {
@@ -104,9 +107,12 @@ fn add_body<'a>(
         × EndsWith delimiter.now body
         × (at.0 ≡ first + length body)
         × (map reading_of lines.new.items ≡ map reading_of lines.old.items ++ inside first body))) }
-    ensures shorter { IfOk result (λ end. IfSome end (λ at. at.0 + length at.1.now ≤ first + length text.now)) }
-    ensures shorter_text { IfOk result (λ end. IfSome end (λ at. length at.1.now ≤ length text.now)) }
-    ensures nowhere { IfOk result (λ end. IfNone end (IsNowhere delimiter.now (raw_lines text.now))) }
+    ensures shorter { IfOk result
+        (λ end. IfSome end (λ at. at.0 + length at.1.now ≤ first + length text.now)) }
+    ensures shorter_text { IfOk result
+        (λ end. IfSome end (λ at. length at.1.now ≤ length text.now)) }
+    ensures nowhere { IfOk result
+        (λ end. IfNone end (IsNowhere delimiter.now (raw_lines text.now))) }
 {
     let mut number = first;
     let mut rest = text;
@@ -128,7 +134,8 @@ fn add_plain(
     number: u64,
     line: &[u8],
 ) -> Result<(), AllocError>
-    ensures { IfOk result (λ _. map reading_of lines.new.items ≡ map reading_of lines.old.items ++ outside number line.now) }
+    ensures { IfOk result (λ _. map reading_of lines.new.items
+        ≡ map reading_of lines.old.items ++ outside number line.now) }
 {
     let words = words_in(alloc, line)?;
     if !is_skipped(words.as_slice()) {
@@ -149,7 +156,8 @@ fn add_line(
     number: u64,
     line: &[u8],
 ) -> Result<(), AllocError>
-    ensures { IfOk result (λ _. map reading_of lines.new.items ≡ map reading_of lines.old.items ++ reading number true line.now ∷ []) }
+    ensures { IfOk result (λ _. map reading_of lines.new.items
+        ≡ map reading_of lines.old.items ++ reading number true line.now ∷ []) }
 {
     let words = words_in(alloc, line)?;
     lines.push(Line {
@@ -187,8 +195,14 @@ fn begins_comment(word: &[u8]) -> bool
 
 /// Bytes are read as lines, or have a line whose banner is not closed, and not both; and in one way.
 pub fn one_line_reading()
-    ensures some { (bytes : List ℕ) → ((answer : List Reading) × AreLines 1 (raw_lines bytes) answer) ⊎ ((line : ℕ) × IsUnclosed 1 (raw_lines bytes) line) }
-    ensures not_both { (bytes : List ℕ) (answer : List Reading) (line : ℕ) → AreLines 1 (raw_lines bytes) answer → IsUnclosed 1 (raw_lines bytes) line → ⊥ }
-    ensures same_lines { (bytes : List ℕ) (answer other : List Reading) → AreLines 1 (raw_lines bytes) answer → AreLines 1 (raw_lines bytes) other → answer ≡ other }
-    ensures same_fault { (bytes : List ℕ) (line other : ℕ) → IsUnclosed 1 (raw_lines bytes) line → IsUnclosed 1 (raw_lines bytes) other → line ≡ other }
+    ensures some { (bytes : List ℕ)
+        → ((answer : List Reading) × AreLines 1 (raw_lines bytes) answer)
+        ⊎ ((line : ℕ) × IsUnclosed 1 (raw_lines bytes) line) }
+    ensures not_both { (bytes : List ℕ) (answer : List Reading) (line : ℕ)
+        → AreLines 1 (raw_lines bytes) answer → IsUnclosed 1 (raw_lines bytes) line → ⊥ }
+    ensures same_lines { (bytes : List ℕ) (answer other : List Reading)
+        → AreLines 1 (raw_lines bytes) answer → AreLines 1 (raw_lines bytes) other
+        → answer ≡ other }
+    ensures same_fault { (bytes : List ℕ) (line other : ℕ) → IsUnclosed 1 (raw_lines bytes) line
+        → IsUnclosed 1 (raw_lines bytes) other → line ≡ other }
 {}

@@ -21,10 +21,14 @@ pub enum IosReason {
     Unmodelled(Word),
     /// A static route whose next hop is in no connected network.
     NextHopNotConnected,
-    /// A static route through an interface that the file does not have.
+    /// A static route or a dynamic translation through an interface that the file does not have.
     UnknownInterface,
     /// A second static translation of one side.
     DuplicateStatic,
+    /// A second pool of one name.
+    DuplicatePool,
+    /// A dynamic translation from a pool that the file does not have.
+    UnknownPool,
     /// A banner without an end.
     Unclosed,
     /// More entries or interfaces than are read.

@@ -73,7 +73,7 @@ fn due_reason(due: Due, digit: bool, lax: IosReason) -> IosReason
     ensures { result ≡ specs.due_reason lax (expected_of due) (is_lax due) digit }
 {
     match due {
-        Due::Order | Due::Mask | Due::AddressOrName => lax,
+        Due::Order | Due::Mask | Due::Name => lax,
         Due::Address => IosReason::BadAddress,
         Due::AddressOrEnd if digit => IosReason::BadAddress,
         Due::Number | Due::NameOrEnd | Due::NumberOrEnd | Due::AddressOrNumberOrEnd if digit => {

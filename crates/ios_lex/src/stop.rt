@@ -12,8 +12,8 @@ pub enum Due {
     AddressOrEnd,
     /// An address, a number, or the end of the line or words that are none of these.
     AddressOrNumberOrEnd,
-    /// An address or a name; the word is a name, and none that the line allows there.
-    AddressOrName,
+    /// Any name, which may be spelled as an address or a number is; the word is none that the line allows there.
+    Name,
     /// An address that is a mask; the word is an address, and none that the line allows there.
     Mask,
     /// A number or a name.

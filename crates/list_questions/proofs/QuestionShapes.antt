@@ -9,7 +9,7 @@ use Rattle.query_lang.specs.declared.literal.Path.{Path}
 use Rattle.list_questions.specs.declared.field_test.FieldTest.{FieldTest}
 use Rattle.list_questions.specs.declared.question.ListQuestion.{ListQuestion}
 use Rattle.list_questions.specs.Questions.{AreTests, Asks, decided, verdict_word}
-use Rattle.list_questions.specs.Shapes.{read_tests}
+use Rattle.list_questions.specs.Shapes.{IsNoAtom, read_tests}
 use Rattle.list_questions.proofs.TestShapes.{one_list, read_are_tests, tests_are_read}
 
 -- it is this question without tests
@@ -130,7 +130,7 @@ no_parts parts question e asks =
     cc
 
 pub no_atom_first : (parts others : List Named) (first : Named) (question : ListQuestion) → parts ≡ first ∷ others
-    → ((router list : List ℕ) (v : Verdict) → first ≡ decided router list v → ⊥) → Asks (named.And parts) question → ⊥
+    → IsNoAtom first → Asks (named.And parts) question → ⊥
 no_atom_first parts others first question e none asks =
     let all = joined parts question asks in
     let same : first ≡ decided question.router question.list question.verdict = cc in
@@ -165,9 +165,9 @@ asks_joined parts others first tests question e atom are some same =
     })
 
 pub asks_no_shape : (formula : Named) (question : ListQuestion) → ((parts : List Named) → formula ≡ named.And parts → ⊥)
-    → ((other : ListQuestion) → formula ≡ decided other.router other.list other.verdict → ⊥) → Asks formula question → ⊥
+    → IsNoAtom formula → Asks formula question → ⊥
 asks_no_shape formula question no_and no_atom asks =
     ⊎_elim
-    (λ (alone : IsAlone formula question). no_atom question alone.is)
+    (λ (alone : IsAlone formula question). no_atom question.router question.list question.verdict alone.is)
     (λ (tested : IsTested formula question). no_and _ tested.is)
     (alone_or_tested formula question asks)

@@ -46,3 +46,7 @@ pub record IsAsked (explore : Explore) (question : ListQuestion) : Type 0 where
   pub under : explore.under ≡ []
   pub include : explore.include ≡ []
   pub asks : Asks explore.formula question
+
+-- an EXPLORE asks no such question
+abbrev pub AsksNone : Explore → Type 0
+AsksNone explore = (question : ListQuestion) → IsAsked explore question → ⊥

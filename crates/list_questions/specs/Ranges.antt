@@ -1,5 +1,6 @@
 -- Which numbers are numbers of a field.
 use Rattle.std.specs.Prelude.{◌≡◌, ◌&&◌, ◌^◌, ℕ, Bool, nat_lt, nat_le, List, ◌∷◌, Option, Some, None, map, if◌then◌else◌}
+use Rattle.std.specs.Option.{option_or}
 use Rattle.ios_acl.specs.declared.packet.Packet.{Packet}
 use Rattle.ios_config.specs.declared.request.Field.{Field}
 use Rattle.ios_config.specs.Request.{bits, packet_fields}
@@ -26,13 +27,9 @@ abbrev pub fault_of : Field → Literal → Option LiteralFault
 fault_of f (literal.Number number) = if is_number_of f number then None else Some fault.OutOfRange
 fault_of f (literal.Interface name) = Some fault.UnknownName
 
-abbrev pub or_later : Option LiteralFault → Option LiteralFault → Option LiteralFault
-or_later (Some first) later = Some first
-or_later None later = later
-
 -- the first literal from the left that is no number of its field, and why
 abbrev pub literal_fault : List Field → List Literal → Option LiteralFault
-literal_fault (f ∷ fields) (l ∷ literals) = or_later (fault_of f l) (literal_fault fields literals)
+literal_fault (f ∷ fields) (l ∷ literals) = option_or (fault_of f l) (literal_fault fields literals)
 literal_fault fields literals = None
 
 -- the literals are the numbers of the packet, in order

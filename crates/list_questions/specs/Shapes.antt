@@ -1,6 +1,7 @@
 -- The parts of a formula that asks about a list, as far as they can be read off. No public call is stated by this.
-use Rattle.std.specs.Prelude.{ℕ, List, [], ◌∷◌, Option, Some, None, find}
+use Rattle.std.specs.Prelude.{◌≡◌, ℕ, List, [], ◌∷◌, Option, Some, None, find}
 use Rattle.std.specs.Str.{bytes_eq}
+use Rattle.ios_acl.specs.declared.entry.Verdict.{Verdict}
 use Rattle.ios_config.specs.declared.request.Field.{Field}
 use Rattle.ios_config.specs.Request.{field_name, packet_fields}
 use Rattle.query_lang.specs.declared.formula.Named.{Named}
@@ -11,6 +12,16 @@ use Rattle.query_lang.specs.declared.term.NamedTerm.{NamedTerm}
 use Rattle.query_lang.specs.declared.term.NamedTerm.TheVariants as term
 use Rattle.list_questions.specs.declared.field_test.FieldTest.{FieldTest}
 use Rattle.list_questions.specs.declared.field_test.FieldTest.TheVariants as test_of
+use Rattle.list_questions.specs.declared.question.ListQuestion.{ListQuestion}
+use Rattle.list_questions.specs.Questions.{Asks, decided}
+
+-- the formula asks no question about a list
+abbrev pub IsNoQuestion : Named → Type 0
+IsNoQuestion formula = (question : ListQuestion) → Asks formula question → ⊥
+
+-- the formula does not say alone how a list decides
+abbrev pub IsNoAtom : Named → Type 0
+IsNoAtom formula = (router list : List ℕ) (verdict : Verdict) → formula ≡ decided router list verdict → ⊥
 
 abbrev pub packet_field : List ℕ → Option Field
 packet_field name = find (λ f. bytes_eq name (field_name f)) packet_fields

@@ -1,6 +1,7 @@
-ghost use Rattle.std.specs.Prelude.{◌≡◌, IfSome, IfNone, List, ℕ};
+ghost use Rattle.std.specs.Prelude.{◌≡◌, IfSome, IfNone};
 ghost use Rattle.ios_acl.specs.declared.entry.Verdict.{Verdict};
 ghost use Rattle.list_questions.specs.Questions.{decided, verdict_word};
+ghost use Rattle.list_questions.specs.Shapes.{IsNoAtom};
 
 use ios_acl::Verdict;
 use query_lang::{Arg, Named, Path};
@@ -16,8 +17,9 @@ pub(crate) struct ListAtom<'a> {
 
 /// What the formula says of a list, where it says of the packet that comes in how the list decides.
 pub(crate) fn list_atom(formula: &Named) -> Option<ListAtom<'_>>
-    ensures found { IfSome result (λ atom. formula.now ≡ decided atom.router.now atom.list.now atom.verdict) }
-    ensures none { IfNone result ((router list : List ℕ) (verdict : Verdict) → formula.now ≡ decided router list verdict → ⊥) }
+    ensures found { IfSome result (λ atom.
+        formula.now ≡ decided atom.router.now atom.list.now atom.verdict) }
+    ensures none { IfNone result (IsNoAtom formula.now) }
 {
     let Named::AtPath { path, word, args } = formula else {
         return None;

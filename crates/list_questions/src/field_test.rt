@@ -54,7 +54,8 @@ fn test_of(formula: &Named) -> Option<FieldTest>
 }
 
 fn masked_test(term: &NamedTerm, value: &Literal, wildcard: &Literal) -> Option<FieldTest>
-    ensures { result ≡ masked_test (field_of term.now) (number_of value.now) (number_of wildcard.now) }
+    ensures { result
+        ≡ masked_test (field_of term.now) (number_of value.now) (number_of wildcard.now) }
 {
     Some(FieldTest::Masked {
         field: field_of(term)?,

@@ -1,7 +1,7 @@
 ghost use Rattle.std.specs.Prelude.{◌≡◌, IfOk, IfSome, IfNone};
 ghost use Rattle.query_lang.specs.declared.formula.Named.TheVariants as named;
-ghost use Rattle.list_questions.specs.declared.question.ListQuestion.{ListQuestion};
-ghost use Rattle.list_questions.specs.Questions.{Asks, IsAsked, decided};
+ghost use Rattle.list_questions.specs.Questions.{Asks, AsksNone, IsAsked};
+ghost use Rattle.list_questions.specs.Shapes.{IsNoAtom, IsNoQuestion};
 
 use crate::NoMemory;
 use crate::atom::{ListAtom, list_atom};
@@ -24,7 +24,7 @@ pub struct ListQuestion {
 /// The question about a list that the EXPLORE asks, where it asks one.
 pub fn question_of(alloc: Global, explore: &Explore) -> Result<Option<ListQuestion>, NoMemory>
     ensures found { IfOk result (λ found. IfSome found (IsAsked explore.now)) }
-    ensures none { IfOk result (λ found. IfNone found ((question : ListQuestion) → IsAsked explore.now question → ⊥)) }
+    ensures none { IfOk result (λ found. IfNone found (AsksNone explore.now)) }
 {
     if !explore.vars.is_empty() || !explore.under.is_empty() || !explore.include.is_empty() {
         return Ok(None);
@@ -36,7 +36,7 @@ pub fn question_of(alloc: Global, explore: &Explore) -> Result<Option<ListQuesti
 #[tactic(auto, using(crate::proofs::QuestionShapes::asks_no_shape))]
 fn asked(alloc: Global, formula: &Named) -> Result<Option<ListQuestion>, NoMemory>
     ensures found { IfOk result (λ found. IfSome found (Asks formula.now)) }
-    ensures none { IfOk result (λ found. IfNone found ((question : ListQuestion) → Asks formula.now question → ⊥)) }
+    ensures none { IfOk result (λ found. IfNone found (IsNoQuestion formula.now)) }
 {
     match formula {
         Named::And(parts) => asked_with_tests(alloc, parts.as_slice()),
@@ -48,7 +48,7 @@ fn asked(alloc: Global, formula: &Named) -> Result<Option<ListQuestion>, NoMemor
 #[tactic(auto, using(crate::proofs::QuestionShapes::asks_alone))]
 fn asked_alone(alloc: Global, formula: &Named) -> Result<Option<ListQuestion>, NoMemory>
     ensures found { IfOk result (λ found. IfSome found (Asks formula.now)) }
-    ensures none { IfOk result (λ found. IfNone found ((question : ListQuestion) → formula.now ≡ decided question.router question.list question.verdict → ⊥)) }
+    ensures none { IfOk result (λ found. IfNone found (IsNoAtom formula.now)) }
 {
     let Some(atom) = list_atom(formula) else {
         return Ok(None);
@@ -59,7 +59,7 @@ fn asked_alone(alloc: Global, formula: &Named) -> Result<Option<ListQuestion>, N
 /// The question that a conjunction of these parts asks.
 fn asked_with_tests(alloc: Global, parts: &[Named]) -> Result<Option<ListQuestion>, NoMemory>
     ensures found { IfOk result (λ found. IfSome found (Asks (named.And parts.now))) }
-    ensures none { IfOk result (λ found. IfNone found ((question : ListQuestion) → Asks (named.And parts.now) question → ⊥)) }
+    ensures none { IfOk result (λ found. IfNone found (IsNoQuestion (named.And parts.now))) }
 {
     let Some((first, others)) = parts.split_first() else {
         return Ok(None);
@@ -81,7 +81,12 @@ fn question(
     atom: ListAtom,
     tests: Items<FieldTest>,
 ) -> Result<ListQuestion, NoMemory>
-    ensures { IfOk result (λ made. made ≡ record { router = atom.entry.router.now; list = atom.entry.list.now; verdict = atom.entry.verdict; tests = tests }) }
+    ensures { IfOk result (λ made. made ≡ record {
+      router = atom.entry.router.now;
+      list = atom.entry.list.now;
+      verdict = atom.entry.verdict;
+      tests = tests;
+    }) }
 {
     Ok(ListQuestion {
         router: atom.router.copy(alloc)?,

@@ -4,6 +4,9 @@
 //! real file system and standard output, and ends with its status. Nothing stands above.
 #![tactic(auto)]
 
+ghost use Rattle.std.specs.Prelude.{◌≡◌};
+ghost use Rattle.session.specs.Run.{status_of};
+
 use mg_outside::{DiskFiles, StdSink};
 pub use session::run;
 use session::{Cause, Ended, behind_name};
@@ -23,7 +26,9 @@ fn words_of(rt: &(impl Env + AllocGlobal)) -> Result<Vec<String>, AllocError> {
 }
 
 /// The whole program over the real files and the real standard output.
-fn run_on_system(rt: &HostRuntime) -> Ended {
+fn run_on_system(rt: &HostRuntime) -> Ended
+    ensures { result.status ≡ status_of result.cause }
+{
     match words_of(rt) {
         Ok(words) => run(
             rt.alloc(),

@@ -36,7 +36,8 @@ impl Entry {
         ensures bytes { IfOk result (λ bytes. bytes.items ≡ self.now.1) }
         ensures within { IfOk result (λ bytes. length bytes.items ≤ max) }
         ensures too_long { IfErr result (Explains (Some self.now.1) max) }
-        ensures long { max < length self.now.1 → result ≡ Err (FileFault.TooLong (length self.now.1)) }
+        ensures long { max < length self.now.1
+            → result ≡ Err (FileFault.TooLong (length self.now.1)) }
         ensures never_fails { result ≢ Err FileFault.Failed }
     {
         let given = self.bytes.len() as u64;

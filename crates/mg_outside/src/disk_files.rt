@@ -56,11 +56,15 @@ fn read_to_end<D: Folder>(
     ensures bytes { IfOk result (λ bytes. Gives (D.left opened.old) max bytes.items) }
     ensures too_long { IfErr result (Explains (D.left opened.old) max) }
     ensures names { (D.log folder.new).names ≡ (D.log folder.old).names }
-    ensures given { IfOk result (λ bytes. Counted (length bytes.items) (D.log folder.old).given (D.log folder.new).given) }
-    ensures given_too_long { (given : ℕ) → result ≡ Err (FileFault.TooLong given) → Counted given (D.log folder.old).given (D.log folder.new).given }
+    ensures given { IfOk result
+        (λ bytes. Counted (length bytes.items) (D.log folder.old).given (D.log folder.new).given) }
+    ensures given_too_long { (given : ℕ) → result ≡ Err (FileFault.TooLong given)
+        → Counted given (D.log folder.old).given (D.log folder.new).given }
     ensures one_piece { (given : ℕ) → result ≡ Err (FileFault.TooLong given) → given ≤ max + 4096 }
-    ensures failed { result ≡ Err FileFault.Failed → Rose (D.log folder.old).faults (D.log folder.new).faults }
-    ensures no_fault { result ≢ Err FileFault.Failed → (D.log folder.new).faults ≡ (D.log folder.old).faults }
+    ensures failed { result ≡ Err FileFault.Failed
+        → Rose (D.log folder.old).faults (D.log folder.new).faults }
+    ensures no_fault { result ≢ Err FileFault.Failed
+        → (D.log folder.new).faults ≡ (D.log folder.old).faults }
     ensures at_most_one { (D.log folder.new).faults ≤ (D.log folder.old).faults + 1 }
     ensures later { (D.log folder.old).faults ≤ (D.log folder.new).faults }
     ensures same { (other : List ℕ) → D.holds folder.new other ≡ D.holds folder.old other }
@@ -97,18 +101,25 @@ impl<D: Folder> Files for DiskFiles<D> {
         ensures too_long { IfErr result (Explains (D.holds self.old name.now) max) }
 
         // The names that were to be opened: this one once, and nothing where memory for a note of it is wanting.
-        ensures named { result ≢ Err FileFault.NoMemory → (D.log self.new).names ≡ (D.log self.old).names ++ name.now ∷ [] }
+        ensures named { result ≢ Err FileFault.NoMemory
+            → (D.log self.new).names ≡ (D.log self.old).names ++ name.now ∷ [] }
         ensures named_at_most { AddsAtMost (D.log self.old).names name.now (D.log self.new).names }
 
         // How many bytes were asked of the folder: those that are given, and of a longer file those that are counted, no
         // more than a piece past the limit.
-        ensures given { IfOk result (λ bytes. Counted (length bytes.items) (D.log self.old).given (D.log self.new).given) }
-        ensures given_too_long { (given : ℕ) → result ≡ Err (FileFault.TooLong given) → Counted given (D.log self.old).given (D.log self.new).given }
-        ensures one_piece { (given : ℕ) → result ≡ Err (FileFault.TooLong given) → given ≤ max + 4096 }
+        ensures given { IfOk result
+            (λ bytes. Counted (length bytes.items) (D.log self.old).given (D.log self.new).given) }
+        ensures given_too_long { (given : ℕ) → result ≡ Err (FileFault.TooLong given)
+            → Counted given (D.log self.old).given (D.log self.new).given }
+        ensures one_piece { (given : ℕ) → result ≡ Err (FileFault.TooLong given)
+            → given ≤ max + 4096 }
 
-        ensures failed { result ≡ Err FileFault.Failed → Rose (D.log self.old).faults (D.log self.new).faults }
-        ensures no_fault { result ≢ Err FileFault.Failed → (other : List ℕ) → (D.log self.new).faults ≡ (D.log self.old).faults }
-        ensures at_most_one { (other : List ℕ) → (D.log self.new).faults ≤ (D.log self.old).faults + 1 }
+        ensures failed { result ≡ Err FileFault.Failed
+            → Rose (D.log self.old).faults (D.log self.new).faults }
+        ensures no_fault { result ≢ Err FileFault.Failed → (other : List ℕ)
+            → (D.log self.new).faults ≡ (D.log self.old).faults }
+        ensures at_most_one { (other : List ℕ)
+            → (D.log self.new).faults ≤ (D.log self.old).faults + 1 }
         ensures later { (other : List ℕ) → (D.log self.old).faults ≤ (D.log self.new).faults }
         ensures same { (other : List ℕ) → D.holds self.new other ≡ D.holds self.old other }
     {

@@ -30,13 +30,18 @@ pub trait Files {
         ensures too_long { IfErr result (Explains (holds self.old name.now) max) }
 
         // Which names were read. Where memory for a note of the name is wanting, nothing was read.
-        ensures named { result ≢ Err FileFault.NoMemory → (log self.new).names ≡ (log self.old).names ++ name.now ∷ [] }
+        ensures named { result ≢ Err FileFault.NoMemory
+            → (log self.new).names ≡ (log self.old).names ++ name.now ∷ [] }
         ensures named_at_most { AddsAtMost (log self.old).names name.now (log self.new).names }
 
         // Which reads failed.
-        ensures failed { result ≡ Err FileFault.Failed → Rose ((log self.old).faults name.now) ((log self.new).faults name.now) }
-        ensures no_fault { result ≢ Err FileFault.Failed → (other : List ℕ) → (log self.new).faults other ≡ (log self.old).faults other }
-        ensures at_most_one { (other : List ℕ) → (log self.new).faults other ≤ (log self.old).faults other + 1 }
-        ensures later { (other : List ℕ) → (log self.old).faults other ≤ (log self.new).faults other }
+        ensures failed { result ≡ Err FileFault.Failed
+            → Rose ((log self.old).faults name.now) ((log self.new).faults name.now) }
+        ensures no_fault { result ≢ Err FileFault.Failed → (other : List ℕ)
+            → (log self.new).faults other ≡ (log self.old).faults other }
+        ensures at_most_one { (other : List ℕ)
+            → (log self.new).faults other ≤ (log self.old).faults other + 1 }
+        ensures later { (other : List ℕ)
+            → (log self.old).faults other ≤ (log self.new).faults other }
         ensures same { (other : List ℕ) → holds self.new other ≡ holds self.old other };
 }

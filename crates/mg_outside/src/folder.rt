@@ -31,12 +31,17 @@ pub trait Folder {
 
     /// Opens the file of this name, of which nothing is read yet.
     fn open(&mut self, name: &str) -> Result<Self::Opened, OpenFault>
-        ensures whole { IfOk result (λ opened. IfSome (holds self.old name.now) (λ bytes. left opened ≡ Some bytes)) }
-        ensures named { result ≢ Err OpenFault.NoMemory → (log self.new).names ≡ (log self.old).names ++ name.now ∷ [] }
-        ensures not_named { result ≡ Err OpenFault.NoMemory → (log self.new).names ≡ (log self.old).names }
+        ensures whole { IfOk result
+            (λ opened. IfSome (holds self.old name.now) (λ bytes. left opened ≡ Some bytes)) }
+        ensures named { result ≢ Err OpenFault.NoMemory
+            → (log self.new).names ≡ (log self.old).names ++ name.now ∷ [] }
+        ensures not_named { result ≡ Err OpenFault.NoMemory
+            → (log self.new).names ≡ (log self.old).names }
         ensures given { (log self.new).given ≡ (log self.old).given }
-        ensures failed { result ≡ Err OpenFault.Failed → Rose (log self.old).faults (log self.new).faults }
-        ensures no_fault { result ≢ Err OpenFault.Failed → (log self.new).faults ≡ (log self.old).faults }
+        ensures failed { result ≡ Err OpenFault.Failed
+            → Rose (log self.old).faults (log self.new).faults }
+        ensures no_fault { result ≢ Err OpenFault.Failed
+            → (log self.new).faults ≡ (log self.old).faults }
         ensures at_most_one { (log self.new).faults ≤ (log self.old).faults + 1 }
         ensures later { (log self.old).faults ≤ (log self.new).faults }
         ensures same { (other : List ℕ) → holds self.new other ≡ holds self.old other };
@@ -46,7 +51,8 @@ pub trait Folder {
     fn read_some(&mut self, opened: &mut Self::Opened, piece: &mut [u8]) -> Result<usize, Failed>
         ensures within { ReadsAtMost result piece.new }
         ensures bytes { ReadConsumes (left opened.old) (left opened.new) result piece.new }
-        ensures given { IfOk result (λ count. Counted count (log self.old).given (log self.new).given) }
+        ensures given { IfOk result
+            (λ count. Counted count (log self.old).given (log self.new).given) }
         ensures named { (log self.new).names ≡ (log self.old).names }
         ensures failed { OnErr result (Rose (log self.old).faults (log self.new).faults) }
         ensures no_fault { OnOk result ((log self.new).faults ≡ (log self.old).faults) }

@@ -21,7 +21,12 @@ impl Model for MemFiles {
 
     ghost Value = { HeldFiles };
 
-    ghost view = { λ m. record { entries = m.contents; failing = m.failing.items; names = m.names; failed = m.failed } };
+    ghost view = { λ m. record {
+      entries = m.contents;
+      failing = m.failing.items;
+      names = m.names;
+      failed = m.failed;
+    } };
 }
 
 impl MemFiles {
@@ -38,7 +43,8 @@ impl MemFiles {
 
     /// Gives a name these bytes, in the place of those that it had.
     pub fn put(&mut self, name: &str, bytes: &[u8]) -> Result<(), AllocError>
-        ensures ok { OnOk result (self.new ≡ record self.old { entries = (name.now, bytes.now) ∷ self.old.entries }) }
+        ensures ok { OnOk result
+            (self.new ≡ record self.old { entries = (name.now, bytes.now) ∷ self.old.entries }) }
         ensures err { OnErr result (self.new ≡ self.old) }
     {
         self.contents.put(name, bytes)
@@ -46,7 +52,8 @@ impl MemFiles {
 
     /// Makes the read of this number fail, counted from 1.
     pub fn fail_at(&mut self, call: u64) -> Result<(), AllocError>
-        ensures ok { OnOk result (self.new ≡ record self.old { failing = self.old.failing ++ call ∷ [] }) }
+        ensures ok { OnOk result
+            (self.new ≡ record self.old { failing = self.old.failing ++ call ∷ [] }) }
         ensures err { OnErr result (self.new ≡ self.old) }
     {
         self.failing.push(call)?;
@@ -84,16 +91,23 @@ impl Files for MemFiles {
     ghost log = { λ m. record { names = m.names; faults = failures m.failed } };
 
     fn read(&mut self, alloc: Global, name: &str, max: u64) -> Result<Vec<u8>, FileFault>
-        ensures bytes { IfOk result (λ bytes. Gives (bytes_under name.now self.old.entries) max bytes.items) }
+        ensures bytes { IfOk result
+            (λ bytes. Gives (bytes_under name.now self.old.entries) max bytes.items) }
         ensures too_long { IfErr result (Explains (bytes_under name.now self.old.entries) max) }
         ensures named_at_most { AddsAtMost self.old.names name.now self.new.names }
-        ensures failed { result ≡ Err FileFault.Failed → Rose (failures self.old.failed name.now) (failures self.new.failed name.now) }
-        ensures later { (other : List ℕ) → failures self.old.failed other ≤ failures self.new.failed other }
-        ensures same { (other : List ℕ) → bytes_under other self.new.entries ≡ bytes_under other self.old.entries }
+        ensures failed { result ≡ Err FileFault.Failed
+            → Rose (failures self.old.failed name.now) (failures self.new.failed name.now) }
+        ensures later { (other : List ℕ)
+            → failures self.old.failed other ≤ failures self.new.failed other }
+        ensures same { (other : List ℕ)
+            → bytes_under other self.new.entries ≡ bytes_under other self.old.entries }
         ensures cause { result ≡ Err FileFault.Failed → read_is_to_fail self.old name.now ≡ true }
-        ensures fails { read_is_to_fail self.old name.now ≡ true → (result ≡ Err FileFault.Failed) ⊎ (result ≡ Err FileFault.NoMemory) }
-        ensures long { read_is_to_fail self.old name.now ≡ false → IfSome (bytes_under name.now self.old.entries)
-            (λ held. max < length held → (result ≡ Err (FileFault.TooLong (length held))) ⊎ (result ≡ Err FileFault.NoMemory)) }
+        ensures fails { read_is_to_fail self.old name.now ≡ true
+            → (result ≡ Err FileFault.Failed) ⊎ (result ≡ Err FileFault.NoMemory) }
+        ensures long { read_is_to_fail self.old name.now ≡ false
+            → IfSome (bytes_under name.now self.old.entries)
+            (λ held. max < length held → (result ≡ Err (FileFault.TooLong (length held)))
+            ⊎ (result ≡ Err FileFault.NoMemory)) }
         ensures after { IsAfterRead self.old name.now result self.new }
     {
         let told_to = is_among(self.failing.as_slice(), self.names.len() as u64 + 1);

@@ -19,7 +19,12 @@ impl Model for MemSink {
 
     ghost Value = { HeldSink };
 
-    ghost view = { λ s. record { bytes = s.bytes.items; failing = s.failing.items; writes = s.writes; faults = s.faults } };
+    ghost view = { λ s. record {
+      bytes = s.bytes.items;
+      failing = s.failing.items;
+      writes = s.writes;
+      faults = s.faults;
+    } };
 }
 
 impl MemSink {
@@ -36,7 +41,8 @@ impl MemSink {
 
     /// Makes the write of this number, counted from 1, take `after` bytes, or all where it has fewer, and fail.
     pub fn fail_at(&mut self, call: u64, after: u64) -> Result<(), AllocError>
-        ensures ok { OnOk result (self.new ≡ record self.old { failing = self.old.failing ++ (call, after) ∷ [] }) }
+        ensures ok { OnOk result
+            (self.new ≡ record self.old { failing = self.old.failing ++ (call, after) ∷ [] }) }
         ensures err { OnErr result (self.new ≡ self.old) }
     {
         self.failing.push((call, after))?;
@@ -96,13 +102,17 @@ impl Sink for MemSink {
 
     fn write_all(&mut self, bytes: &[u8]) -> Result<(), SinkFault>
         ensures ok { OnOk result (Takes (Some self.old.bytes) (Some self.new.bytes) bytes.now) }
-        ensures err { OnErr result (TakesFront (Some self.old.bytes) (Some self.new.bytes) bytes.now) }
+        ensures err { OnErr result
+            (TakesFront (Some self.old.bytes) (Some self.new.bytes) bytes.now) }
         ensures failed { result ≡ Err SinkFault.Failed → Rose self.old.faults self.new.faults }
         ensures counted { self.new.writes ≡ one_more self.old.writes }
         ensures later { self.old.faults ≤ self.new.faults }
-        ensures after_ok { OnOk result (IsNone (next_limit self.old) × (self.new ≡ after_write self.old bytes.now)) }
-        ensures after_failure { result ≡ Err SinkFault.Failed → IsSomeAnd (next_limit self.old) (λ limit. self.new ≡ after_failure self.old (take limit bytes.now)) }
-        ensures after_no_memory { result ≡ Err SinkFault.NoMemory → self.new ≡ record self.old { writes = one_more self.old.writes } }
+        ensures after_ok { OnOk result
+            (IsNone (next_limit self.old) × (self.new ≡ after_write self.old bytes.now)) }
+        ensures after_failure { result ≡ Err SinkFault.Failed → IsSomeAnd (next_limit self.old)
+            (λ limit. self.new ≡ after_failure self.old (take limit bytes.now)) }
+        ensures after_no_memory { result ≡ Err SinkFault.NoMemory
+            → self.new ≡ record self.old { writes = one_more self.old.writes } }
     {
         self.writes = self.writes.saturating_add(1);
         match limit(self.failing.as_slice(), self.writes) {

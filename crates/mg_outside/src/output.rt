@@ -19,7 +19,8 @@ pub trait Output {
         requires { 0 < length bytes.now }
         ensures within { WritesAtMost result bytes.now }
         ensures some { IfOk result (λ count. 0 < count) }
-        ensures front { IfOk result (λ count. Takes (taken self.old) (taken self.new) (take count bytes.now)) }
+        ensures front { IfOk result
+            (λ count. Takes (taken self.old) (taken self.new) (take count bytes.now)) }
         ensures none { OnErr result (taken self.new ≡ taken self.old) }
         ensures failed { OnErr result (Rose (faults self.old) (faults self.new)) }
         ensures no_fault { OnOk result (faults self.new ≡ faults self.old) }

@@ -20,11 +20,15 @@ pub trait Sink {
     /// Takes the bytes, all of them or, where it fails, a front of them.
     fn write_all(&mut self, bytes: &[u8]) -> Result<(), SinkFault>
         ensures ok { OnOk result (Takes (log self.old).taken (log self.new).taken bytes.now) }
-        ensures err { OnErr result (TakesFront (log self.old).taken (log self.new).taken bytes.now) }
-        ensures no_memory { result ≡ Err SinkFault.NoMemory → (log self.new).taken ≡ (log self.old).taken }
+        ensures err { OnErr result
+            (TakesFront (log self.old).taken (log self.new).taken bytes.now) }
+        ensures no_memory { result ≡ Err SinkFault.NoMemory
+            → (log self.new).taken ≡ (log self.old).taken }
         ensures counted { (log self.new).writes ≡ one_more (log self.old).writes }
-        ensures failed { result ≡ Err SinkFault.Failed → Rose (log self.old).faults (log self.new).faults }
-        ensures no_fault { result ≢ Err SinkFault.Failed → (log self.new).faults ≡ (log self.old).faults }
+        ensures failed { result ≡ Err SinkFault.Failed
+            → Rose (log self.old).faults (log self.new).faults }
+        ensures no_fault { result ≢ Err SinkFault.Failed
+            → (log self.new).faults ≡ (log self.old).faults }
         ensures at_most_one { (log self.new).faults ≤ (log self.old).faults + 1 }
         ensures later { (log self.old).faults ≤ (log self.new).faults };
 }

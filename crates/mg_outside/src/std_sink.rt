@@ -46,14 +46,22 @@ impl<O: Output> Sink for StdSink<O> {
     ghost use Rattle.mg_outside.specs.Faults.{Rose, one_more};
     ghost use Rattle.mg_outside.specs.Taking.{Takes, TakesFront};
 
-    ghost log = { λ s. record { taken = O.taken s.output; writes = s.writes; faults = O.faults s.output } };
+    ghost log = { λ s. record {
+      taken = O.taken s.output;
+      writes = s.writes;
+      faults = O.faults s.output;
+    } };
 
     fn write_all(&mut self, bytes: &[u8]) -> Result<(), SinkFault>
-        ensures ok { OnOk result (Takes (O.taken self.old.output) (O.taken self.new.output) bytes.now) }
-        ensures err { OnErr result (TakesFront (O.taken self.old.output) (O.taken self.new.output) bytes.now) }
+        ensures ok { OnOk result
+            (Takes (O.taken self.old.output) (O.taken self.new.output) bytes.now) }
+        ensures err { OnErr result
+            (TakesFront (O.taken self.old.output) (O.taken self.new.output) bytes.now) }
         ensures counted { self.new.writes ≡ one_more self.old.writes }
-        ensures failed { result ≡ Err SinkFault.Failed → Rose (O.faults self.old.output) (O.faults self.new.output) }
-        ensures no_fault { result ≢ Err SinkFault.Failed → O.faults self.new.output ≡ O.faults self.old.output }
+        ensures failed { result ≡ Err SinkFault.Failed
+            → Rose (O.faults self.old.output) (O.faults self.new.output) }
+        ensures no_fault { result ≢ Err SinkFault.Failed
+            → O.faults self.new.output ≡ O.faults self.old.output }
         ensures at_most_one { O.faults self.new.output ≤ O.faults self.old.output + 1 }
         ensures later { O.faults self.old.output ≤ O.faults self.new.output }
         ensures takes_no_memory { result ≢ Err SinkFault.NoMemory }

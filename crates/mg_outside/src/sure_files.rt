@@ -33,7 +33,8 @@ impl SureFiles {
 
     /// Gives a name these bytes, in the place of those that it had.
     pub fn put(&mut self, name: &str, bytes: &[u8]) -> Result<(), AllocError>
-        ensures ok { OnOk result (self.new ≡ record self.old { entries = (name.now, bytes.now) ∷ self.old.entries }) }
+        ensures ok { OnOk result
+            (self.new ≡ record self.old { entries = (name.now, bytes.now) ∷ self.old.entries }) }
         ensures err { OnErr result (self.new ≡ self.old) }
     {
         self.contents.put(name, bytes)
@@ -50,12 +51,15 @@ impl Files for SureFiles {
     ghost log = { λ s. record { names = s.names; faults = λ _. 0 } };
 
     fn read(&mut self, alloc: Global, name: &str, max: u64) -> Result<Vec<u8>, FileFault>
-        ensures bytes { IfOk result (λ bytes. Gives (Some (held_by self.old name.now)) max bytes.items) }
+        ensures bytes { IfOk result
+            (λ bytes. Gives (Some (held_by self.old name.now)) max bytes.items) }
         ensures too_long { IfErr result (Explains (Some (held_by self.old name.now)) max) }
-        ensures named { result ≢ Err FileFault.NoMemory → self.new.names ≡ self.old.names ++ name.now ∷ [] }
+        ensures named { result ≢ Err FileFault.NoMemory
+            → self.new.names ≡ self.old.names ++ name.now ∷ [] }
         ensures named_at_most { AddsAtMost self.old.names name.now self.new.names }
         ensures long { max < length (held_by self.old name.now)
-            → (result ≡ Err (FileFault.TooLong (length (held_by self.old name.now)))) ⊎ (result ≡ Err FileFault.NoMemory) }
+            → (result ≡ Err (FileFault.TooLong (length (held_by self.old name.now))))
+            ⊎ (result ≡ Err FileFault.NoMemory) }
         ensures never_fails { result ≢ Err FileFault.Failed }
         ensures unchanged { self.new ≡ record self.old { names = self.new.names } }
     {

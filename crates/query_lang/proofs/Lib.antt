@@ -24,3 +24,12 @@ pub mod Commands
 pub mod Stating
 pub mod Fronts
 pub mod OneReading
+pub mod WrittenTerms
+pub mod WrittenFormulas
+pub mod ReadAgain
+pub mod TermsAgain
+pub mod LiteralsAgain
+pub mod PathsAgain
+pub mod FormulasAgain
+pub mod StatementsAgain
+pub mod ScriptsAgain

@@ -1,7 +1,9 @@
 -- Numerals, and numbers between two.
-use Rattle.std.proofs.Common.{◌≡◌, ℕ, ◌<◌, ◌≤◌, ◌^◌, ◌-◌, Bool, true, false, ◌&&◌, nat_le, nat_lt, List, [], ◌∷◌, refl, arith}
+use Rattle.std.proofs.Common.{◌≡◌, ℕ, ◌<◌, ◌≤◌, ◌^◌, ◌-◌, Bool, true, false, ◌&&◌, nat_le, nat_lt, List, [], ◌∷◌, refl, ap, arith}
 use Rattle.std.proofs.lemmas.Bool.{and_from, and_left, and_right, leb-true, le-leb, ltb-true, ltb-false}
 use Rattle.std.proofs.lemmas.Str.Parse.{tells_all_ascii_digits, numerals_by_value}
+use Rattle.std.specs.Char.{is_ascii_digit}
+use Rattle.std.specs.List.{list_all}
 use Rattle.std.specs.Str.{all_ascii_digits}
 use Rattle.std.specs.Str.Parse.{IsNumeral, AllDigits, digits_value}
 use Rattle.query_lang.specs.Words.{is_numeral, is_number, number}
@@ -12,7 +14,7 @@ digits_all text e = (numerals_by_value (λ ds. all_ascii_digits ds ≡ true) tel
 all_digits : (text : List ℕ) → AllDigits 10 text → all_ascii_digits text ≡ true
 all_digits text d = (numerals_by_value (λ ds. all_ascii_digits ds ≡ true) tells_all_ascii_digits).from text d
 
-numeral_is : (text : List ℕ) → is_numeral text ≡ true → IsNumeral 10 text
+pub numeral_is : (text : List ℕ) → is_numeral text ≡ true → IsNumeral 10 text
 numeral_is [] e = absurd (cc e)
 numeral_is (c ∷ cs) e = (omega arith, digits_all (c ∷ cs) e)
 
@@ -74,3 +76,11 @@ not_whole text false e none = and_left (is_numeral text) _ e
 
 pub no_whole : (text : List ℕ) → (IsNumeral 10 text × (digits_value 10 text < 2 ^ 128) → ⊥) → is_number 0 (2 ^ 128 - 1) text ≡ false
 no_whole text none = not_whole text (is_numeral text) refl none
+
+digits_by_test : (text : List ℕ) → all_ascii_digits text ≡ list_all is_ascii_digit text
+digits_by_test [] = refl
+digits_by_test (c ∷ cs) = ap (λ (b : Bool). is_ascii_digit c && b) (digits_by_test cs)
+
+pub numeral_by_test : (text : List ℕ) → (text ≡ [] → ⊥) → is_numeral text ≡ list_all is_ascii_digit text
+numeral_by_test [] some = absurd (some refl)
+numeral_by_test (c ∷ cs) some = digits_by_test (c ∷ cs)

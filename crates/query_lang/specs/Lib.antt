@@ -10,3 +10,5 @@ pub mod Scripts
 pub mod Refusal
 pub mod Readings
 pub mod Machine
+pub mod Writing
+pub mod Written

@@ -1,108 +1,62 @@
--- The table of keywords has each of them.
-use Rattle.std.proofs.Common.{◌≡◌, ℕ, true, List, [], ◌∷◌, All, Option, Some, None, IfNone, find, refl, ap, lit<}
+-- The list of keywords has each of them.
+use Rattle.std.proofs.Common.{◌≡◌, ℕ, true, List, All, Option, Some, None, IfNone, find, refl, ap, lit<}
 use Rattle.std.specs.Str.{bytes_eq}
 use Rattle.query_tokens.specs.declared.keyword.Keyword.{Keyword}
 use Rattle.query_tokens.specs.declared.keyword.Keyword.TheVariants as keyword
-use Rattle.query_tokens.specs.Keywords.{letters, IsNoKeyword}
+use Rattle.query_tokens.specs.Keywords.{letters, IsNoKeyword, keywords}
 use Rattle.query_tokens.specs.Words.{begins_with_letter}
 
--- the keywords in order
-abbrev pub table : List Keyword
-table =
-    keyword.Load ∷
-    keyword.Vocab ∷
-    keyword.Policy ∷
-    keyword.Ios ∷
-    keyword.Iptables ∷
-    keyword.As ∷
-    keyword.Explore ∷
-    keyword.Under ∷
-    keyword.Include ∷
-    keyword.Is ∷
-    keyword.Possible ∷
-    keyword.Show ∷
-    keyword.One ∷
-    keyword.First ∷
-    keyword.All ∷
-    keyword.Full ∷
-    keyword.Up ∷
-    keyword.Realized ∷
-    keyword.Unrealized ∷
-    keyword.Bounds ∷
-    keyword.Proof ∷
-    keyword.Compare ∷
-    keyword.Decide ∷
-    keyword.Generate ∷
-    keyword.Link ∷
-    keyword.Path ∷
-    keyword.Within ∷
-    keyword.Audit ∷
-    keyword.Core ∷
-    keyword.Where ∷
-    keyword.And ∷
-    keyword.Or ∷
-    keyword.Not ∷
-    keyword.Implies ∷
-    keyword.Iff ∷
-    keyword.Forall ∷
-    keyword.Exists ∷
-    keyword.In ∷
-    keyword.To ∷
-    keyword.True ∷
-    keyword.False ∷
-    []
+-- a word that is none of them is no keyword
+pub none_of_the_keywords : (word : List ℕ) → All (λ keyword. word ≡ letters keyword → ⊥) keywords → IsNoKeyword word
+none_of_the_keywords word none keyword.Load = none 0 keyword.Load (lit< tt)
+none_of_the_keywords word none keyword.Vocab = none 1 keyword.Vocab (lit< tt)
+none_of_the_keywords word none keyword.Policy = none 2 keyword.Policy (lit< tt)
+none_of_the_keywords word none keyword.Ios = none 3 keyword.Ios (lit< tt)
+none_of_the_keywords word none keyword.Iptables = none 4 keyword.Iptables (lit< tt)
+none_of_the_keywords word none keyword.As = none 5 keyword.As (lit< tt)
+none_of_the_keywords word none keyword.Explore = none 6 keyword.Explore (lit< tt)
+none_of_the_keywords word none keyword.Under = none 7 keyword.Under (lit< tt)
+none_of_the_keywords word none keyword.Include = none 8 keyword.Include (lit< tt)
+none_of_the_keywords word none keyword.Is = none 9 keyword.Is (lit< tt)
+none_of_the_keywords word none keyword.Possible = none 10 keyword.Possible (lit< tt)
+none_of_the_keywords word none keyword.Show = none 11 keyword.Show (lit< tt)
+none_of_the_keywords word none keyword.One = none 12 keyword.One (lit< tt)
+none_of_the_keywords word none keyword.First = none 13 keyword.First (lit< tt)
+none_of_the_keywords word none keyword.All = none 14 keyword.All (lit< tt)
+none_of_the_keywords word none keyword.Full = none 15 keyword.Full (lit< tt)
+none_of_the_keywords word none keyword.Up = none 16 keyword.Up (lit< tt)
+none_of_the_keywords word none keyword.Realized = none 17 keyword.Realized (lit< tt)
+none_of_the_keywords word none keyword.Unrealized = none 18 keyword.Unrealized (lit< tt)
+none_of_the_keywords word none keyword.Bounds = none 19 keyword.Bounds (lit< tt)
+none_of_the_keywords word none keyword.Proof = none 20 keyword.Proof (lit< tt)
+none_of_the_keywords word none keyword.Compare = none 21 keyword.Compare (lit< tt)
+none_of_the_keywords word none keyword.Decide = none 22 keyword.Decide (lit< tt)
+none_of_the_keywords word none keyword.Generate = none 23 keyword.Generate (lit< tt)
+none_of_the_keywords word none keyword.Link = none 24 keyword.Link (lit< tt)
+none_of_the_keywords word none keyword.Path = none 25 keyword.Path (lit< tt)
+none_of_the_keywords word none keyword.Within = none 26 keyword.Within (lit< tt)
+none_of_the_keywords word none keyword.Audit = none 27 keyword.Audit (lit< tt)
+none_of_the_keywords word none keyword.Core = none 28 keyword.Core (lit< tt)
+none_of_the_keywords word none keyword.Where = none 29 keyword.Where (lit< tt)
+none_of_the_keywords word none keyword.And = none 30 keyword.And (lit< tt)
+none_of_the_keywords word none keyword.Or = none 31 keyword.Or (lit< tt)
+none_of_the_keywords word none keyword.Not = none 32 keyword.Not (lit< tt)
+none_of_the_keywords word none keyword.Implies = none 33 keyword.Implies (lit< tt)
+none_of_the_keywords word none keyword.Iff = none 34 keyword.Iff (lit< tt)
+none_of_the_keywords word none keyword.Forall = none 35 keyword.Forall (lit< tt)
+none_of_the_keywords word none keyword.Exists = none 36 keyword.Exists (lit< tt)
+none_of_the_keywords word none keyword.In = none 37 keyword.In (lit< tt)
+none_of_the_keywords word none keyword.To = none 38 keyword.To (lit< tt)
+none_of_the_keywords word none keyword.True = none 39 keyword.True (lit< tt)
+none_of_the_keywords word none keyword.False = none 40 keyword.False (lit< tt)
 
--- a word that is none of the table is no keyword
-pub none_of_the_table : (word : List ℕ) → All (λ keyword. word ≡ letters keyword → ⊥) table → IsNoKeyword word
-none_of_the_table word none keyword.Load = none 0 keyword.Load (lit< tt)
-none_of_the_table word none keyword.Vocab = none 1 keyword.Vocab (lit< tt)
-none_of_the_table word none keyword.Policy = none 2 keyword.Policy (lit< tt)
-none_of_the_table word none keyword.Ios = none 3 keyword.Ios (lit< tt)
-none_of_the_table word none keyword.Iptables = none 4 keyword.Iptables (lit< tt)
-none_of_the_table word none keyword.As = none 5 keyword.As (lit< tt)
-none_of_the_table word none keyword.Explore = none 6 keyword.Explore (lit< tt)
-none_of_the_table word none keyword.Under = none 7 keyword.Under (lit< tt)
-none_of_the_table word none keyword.Include = none 8 keyword.Include (lit< tt)
-none_of_the_table word none keyword.Is = none 9 keyword.Is (lit< tt)
-none_of_the_table word none keyword.Possible = none 10 keyword.Possible (lit< tt)
-none_of_the_table word none keyword.Show = none 11 keyword.Show (lit< tt)
-none_of_the_table word none keyword.One = none 12 keyword.One (lit< tt)
-none_of_the_table word none keyword.First = none 13 keyword.First (lit< tt)
-none_of_the_table word none keyword.All = none 14 keyword.All (lit< tt)
-none_of_the_table word none keyword.Full = none 15 keyword.Full (lit< tt)
-none_of_the_table word none keyword.Up = none 16 keyword.Up (lit< tt)
-none_of_the_table word none keyword.Realized = none 17 keyword.Realized (lit< tt)
-none_of_the_table word none keyword.Unrealized = none 18 keyword.Unrealized (lit< tt)
-none_of_the_table word none keyword.Bounds = none 19 keyword.Bounds (lit< tt)
-none_of_the_table word none keyword.Proof = none 20 keyword.Proof (lit< tt)
-none_of_the_table word none keyword.Compare = none 21 keyword.Compare (lit< tt)
-none_of_the_table word none keyword.Decide = none 22 keyword.Decide (lit< tt)
-none_of_the_table word none keyword.Generate = none 23 keyword.Generate (lit< tt)
-none_of_the_table word none keyword.Link = none 24 keyword.Link (lit< tt)
-none_of_the_table word none keyword.Path = none 25 keyword.Path (lit< tt)
-none_of_the_table word none keyword.Within = none 26 keyword.Within (lit< tt)
-none_of_the_table word none keyword.Audit = none 27 keyword.Audit (lit< tt)
-none_of_the_table word none keyword.Core = none 28 keyword.Core (lit< tt)
-none_of_the_table word none keyword.Where = none 29 keyword.Where (lit< tt)
-none_of_the_table word none keyword.And = none 30 keyword.And (lit< tt)
-none_of_the_table word none keyword.Or = none 31 keyword.Or (lit< tt)
-none_of_the_table word none keyword.Not = none 32 keyword.Not (lit< tt)
-none_of_the_table word none keyword.Implies = none 33 keyword.Implies (lit< tt)
-none_of_the_table word none keyword.Iff = none 34 keyword.Iff (lit< tt)
-none_of_the_table word none keyword.Forall = none 35 keyword.Forall (lit< tt)
-none_of_the_table word none keyword.Exists = none 36 keyword.Exists (lit< tt)
-none_of_the_table word none keyword.In = none 37 keyword.In (lit< tt)
-none_of_the_table word none keyword.To = none 38 keyword.To (lit< tt)
-none_of_the_table word none keyword.True = none 39 keyword.True (lit< tt)
-none_of_the_table word none keyword.False = none 40 keyword.False (lit< tt)
-
-pub none_found : (word : List ℕ) (found : Option Keyword) → IfNone found (All (λ keyword. word ≡ letters keyword → ⊥) table) → IfNone found (IsNoKeyword word)
+pub none_found : (word : List ℕ) (found : Option Keyword) → IfNone found (All (λ keyword. word ≡ letters keyword → ⊥) keywords) → IfNone found (IsNoKeyword word)
 none_found word (Some keyword) none = tt
-none_found word None none = none_of_the_table word none
+none_found word None none = none_of_the_keywords word none
 
 -- the keyword at its letters
 abbrev read : List ℕ → Option Keyword
-read word = find (λ keyword. bytes_eq word (letters keyword)) table
+read word = find (λ keyword. bytes_eq word (letters keyword)) keywords
 
 letters-read : (keyword : Keyword) → read (letters keyword) ≡ Some keyword
 letters-read keyword.Load = refl

@@ -1,5 +1,5 @@
 -- Keywords are written in ASCII.
-use Rattle.std.proofs.Common.{◌≡◌, ℕ, List, rules}
+use Rattle.std.proofs.Common.{rules}
 use Rattle.std.specs.Str.{IsAscii}
 use Rattle.query_tokens.specs.declared.keyword.Keyword.{Keyword}
 use Rattle.query_tokens.specs.declared.keyword.Keyword.TheVariants as keyword

@@ -8,3 +8,4 @@ pub mod OneToken
 pub mod OneList
 pub mod KeywordTexts
 pub mod WrittenLines
+pub mod Writable

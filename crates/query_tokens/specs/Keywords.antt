@@ -1,5 +1,7 @@
 -- The keywords of scripts.
-use Rattle.std.specs.Prelude.{◌≡◌, ℕ, List, codes}
+use Rattle.std.specs.Prelude.{◌≡◌, ℕ, Bool, List, [], ◌∷◌, codes}
+use Rattle.std.specs.List.{list_any}
+use Rattle.std.specs.Str.{bytes_eq}
 use Rattle.query_tokens.specs.declared.keyword.Keyword.{Keyword}
 use Rattle.query_tokens.specs.declared.keyword.Keyword.TheVariants as keyword
 
@@ -50,3 +52,53 @@ letters keyword.False = codes "FALSE"
 -- the word is no keyword
 abbrev pub IsNoKeyword : List ℕ → Type 0
 IsNoKeyword word = (keyword : Keyword) → word ≡ letters keyword → ⊥
+
+-- the keywords in order
+abbrev pub keywords : List Keyword
+keywords =
+    keyword.Load ∷
+    keyword.Vocab ∷
+    keyword.Policy ∷
+    keyword.Ios ∷
+    keyword.Iptables ∷
+    keyword.As ∷
+    keyword.Explore ∷
+    keyword.Under ∷
+    keyword.Include ∷
+    keyword.Is ∷
+    keyword.Possible ∷
+    keyword.Show ∷
+    keyword.One ∷
+    keyword.First ∷
+    keyword.All ∷
+    keyword.Full ∷
+    keyword.Up ∷
+    keyword.Realized ∷
+    keyword.Unrealized ∷
+    keyword.Bounds ∷
+    keyword.Proof ∷
+    keyword.Compare ∷
+    keyword.Decide ∷
+    keyword.Generate ∷
+    keyword.Link ∷
+    keyword.Path ∷
+    keyword.Within ∷
+    keyword.Audit ∷
+    keyword.Core ∷
+    keyword.Where ∷
+    keyword.And ∷
+    keyword.Or ∷
+    keyword.Not ∷
+    keyword.Implies ∷
+    keyword.Iff ∷
+    keyword.Forall ∷
+    keyword.Exists ∷
+    keyword.In ∷
+    keyword.To ∷
+    keyword.True ∷
+    keyword.False ∷
+    []
+
+-- the word is a keyword
+unfoldable pub is_keyword : List ℕ → Bool
+is_keyword word = list_any (λ keyword. bytes_eq word (letters keyword)) keywords

@@ -1,5 +1,6 @@
 ghost use Rattle.std.specs.Prelude.{◌≡◌, All, IfSome, IfNone};
 ghost use Rattle.query_tokens.specs.declared.keyword.Keyword.{Keyword as AnyKeyword};
+ghost use Rattle.query_tokens.specs.Keywords as specs;
 ghost use Rattle.query_tokens.specs.Keywords.{letters, IsNoKeyword};
 
 /// A word that is no name in a script. It is written in capitals, as it stands here.
@@ -160,6 +161,14 @@ pub fn keyword_of(word: &[u8]) -> Option<Keyword>
     ensures none { IfNone result (IsNoKeyword word.now) }
 {
     keyword_among(word, &KEYWORDS)
+}
+
+/// Whether the word is a keyword.
+#[tactic(auto, unfolding(crate::specs::Keywords::is_keyword))]
+pub fn is_keyword(word: &[u8]) -> bool
+    ensures { result ≡ specs.is_keyword word.now }
+{
+    KEYWORDS.iter().any(|keyword| word == letters(*keyword))
 }
 
 /// No two keywords are written alike.

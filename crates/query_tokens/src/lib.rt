@@ -22,5 +22,5 @@ pub use numbers::number;
 pub use scan::{one_list_of_tokens, tokens};
 pub use std::alloc::AllocError as NoMemory;
 pub use token::{Placed, Sign, Token};
-pub use word::keyword_text;
+pub use word::{is_name, keyword_text};
 pub use writing::{lines_are_read_back, push_line};

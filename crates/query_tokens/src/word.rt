@@ -1,5 +1,5 @@
 ghost use Rattle.std.specs.Prelude.{◌≡◌, ◌≤◌, ◌++◌, ◌<◌, ◌↔◌, ℕ, List, length, IsTrue, IfOk, IfSome, IfNone};
-ghost use Rattle.std.specs.List.{prefix_len};
+ghost use Rattle.std.specs.List.{list_all, prefix_len};
 ghost use Rattle.std.specs.Str.{IsAscii};
 ghost use Rattle.query_tokens.specs.Keywords.{letters};
 ghost use Rattle.std.specs.Str.Parse.{IsNumeral};
@@ -7,7 +7,7 @@ ghost use Rattle.query_tokens.specs.Fronts.{Stops};
 ghost use Rattle.query_tokens.specs.Words as specs;
 ghost use Rattle.query_tokens.specs.Words.{IsWord, IsWordToken};
 
-use crate::keyword::{Keyword, keyword_of, letters as written};
+use crate::keyword::{Keyword, is_keyword, keyword_of, letters as written};
 use crate::token::Token;
 use sorted_logic::Text;
 use std::alloc::{AllocError, Global};
@@ -79,6 +79,31 @@ fn is_numeral(word: &[u8]) -> bool
     ensures { IsTrue result ↔ IsNumeral 10 word.now }
 {
     word.iter().all(|byte| byte.is_ascii_digit())
+}
+
+/// Whether the text begins with a letter.
+fn begins_with_letter(text: &[u8]) -> bool
+    ensures { result ≡ specs.begins_with_letter text.now }
+{
+    match text.first() {
+        Some(byte) => byte.is_ascii_alphabetic(),
+        None => false,
+    }
+}
+
+/// Whether a word may go on with each byte.
+fn goes_on(text: &[u8]) -> bool
+    ensures { result ≡ list_all specs.continues_word text.now }
+{
+    text.iter().all(|byte| continues_word(*byte))
+}
+
+/// Whether the text is a name: a word that begins with a letter and is no keyword.
+pub fn is_name(text: &Text) -> bool
+    ensures { result ≡ specs.is_name text.now }
+{
+    let bytes = text.bytes();
+    begins_with_letter(bytes) && goes_on(bytes) && !is_keyword(bytes)
 }
 
 /// The token that the word is.

@@ -1,5 +1,5 @@
 -- Whom a run blames, by what it did.
-use Rattle.std.proofs.Common.{◌≡◌, ℕ, ◌+◌, Bool, true, false, List, Option, None, Some, refl}
+use Rattle.std.proofs.Common.{◌≡◌, ℕ, Bool, true, false, List, Option, None, Some, refl}
 use Rattle.mg_outside.specs.Effects.{Effects, FaultsMoved, Performs, RefusalCounted}
 use Rattle.mg_outside.specs.Logs.{FileLog, SinkLog}
 use Rattle.session.specs.declared.ended.Cause.{Cause}

@@ -1,5 +1,5 @@
 -- The statements of a script that were carried out so far.
-use Rattle.std.proofs.Common.{◌≡◌, ◌∙◌, ℕ, suc, ◌+◌, ◌<◌, false, List, [], ◌∷◌, ◌++◌, length, map, drop, get_or, Option, None, refl, sym, ap, arith, add-one, drop-cons, append_assoc, append-nil, length-append}
+use Rattle.std.proofs.Common.{◌≡◌, ◌∙◌, ℕ, suc, ◌+◌, ◌<◌, false, List, [], ◌∷◌, ◌++◌, length, drop, get_or, Option, None, refl, sym, ap, add-one, drop-cons, append_assoc, append-nil}
 use Rattle.mg_outside.specs.Effects.{Effects, HasRead, HasWritten, Performs, behind}
 use Rattle.mg_outside.specs.Logs.{FileLog, SinkLog}
 use Rattle.mg_outside.proofs.EffectLaws.{has_read_nothing, has_read_then, has_written_nothing, has_written_then}
@@ -7,7 +7,6 @@ use Rattle.session.specs.declared.ended.Cause.{Cause}
 use Rattle.session.specs.declared.ended.Cause.TheVariants as cause
 use Rattle.session.specs.Endings.{IsCarriedOut}
 use Rattle.session.specs.Run.{AreCarriedOut, all, next, ends, EndsAt, IsCutShort, effects, no_routers}
-use Rattle.query_lang.specs.declared.script.Kind.{Kind}
 use Rattle.query_lang.specs.declared.script.Statement.{Statement}
 use Rattle.session.specs.Steps.{State, reads_of, Carries}
 

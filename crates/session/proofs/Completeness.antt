@@ -1,5 +1,5 @@
 -- A run that has nothing to refuse, and of which no fault came, is done.
-use Rattle.std.proofs.Common.{◌≡◌, ℕ, ◌+◌, ◌≤◌, ◌⊎◌, inl, inr, Bool, true, false, List, length, Option, Some, IsSome, refl, sym, ap, ◌∙◌, arith}
+use Rattle.std.proofs.Common.{◌≡◌, ℕ, ◌≤◌, ◌⊎◌, inl, inr, Bool, true, List, length, Option, Some, IsSome, refl, sym, ap, ◌∙◌, arith}
 use Rattle.std.specs.List.{AllByRecursion}
 use Rattle.mg_outside.specs.Effects.{Effects, FaultsMoved, Performs, RefusalCounted}
 use Rattle.mg_outside.specs.Faults.{Rose}
@@ -9,9 +9,8 @@ use Rattle.session.specs.declared.ended.Cause.{Cause}
 use Rattle.session.specs.declared.ended.Cause.TheVariants as cause
 use Rattle.session.specs.Complete.{IsAnswerable, TellsFile}
 use Rattle.query_lang.specs.declared.script.Kind.{Kind}
-use Rattle.query_lang.specs.declared.script.Script.{Script}
 use Rattle.query_lang.specs.declared.script.Statement.{Statement}
-use Rattle.session.specs.Steps.{State, Carries, loads, explores, shows, decides, asking, IsUnread, fault, too_long, IsRefused, not_built, taken, unknown, no_question, past, no_list, arity, literal, Stops, refused as refused_statement, unread as unread_file, refused_file, with_router, max_bytes}
+use Rattle.session.specs.Steps.{State, Carries, loads, explores, shows, decides, IsUnread, fault, too_long, IsRefused, not_built, taken, unknown, no_question, past, no_list, arity, literal, Stops, refused as refused_statement, unread as unread_file, refused_file, with_router, max_bytes}
 use Rattle.session.specs.Run.{AreCarriedOut, all, next, ends, EndsAt, stops, cut, wants, IsCutShort, NeverCut, IsCut, refused, unkept, IsSaid, whole, cut as cut_line, unmade, IsScriptRun, unread, refused as refused_script, read, wants as wants_script, IsRun, bad_words, form, no_routers}
 use Rattle.ios_config.proofs.OneConfig.{routers_same, read_is_not_refused}
 use Rattle.session.proofs.Places.{held}

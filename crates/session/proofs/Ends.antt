@@ -1,6 +1,6 @@
 -- Runs that end at a statement, by what its calls did.
-use Rattle.std.proofs.Common.{◌≡◌, ℕ, false, List, [], ◌∷◌, ◌++◌, Option, None, refl, sym, append-nil}
-use Rattle.mg_outside.specs.Effects.{Effects, HasRead, HasWritten, Performs}
+use Rattle.std.proofs.Common.{ℕ, false, List, [], ◌∷◌, Option, None, sym, append-nil}
+use Rattle.mg_outside.specs.Effects.{HasRead, HasWritten, Performs}
 use Rattle.mg_outside.specs.Logs.{FileLog, SinkLog}
 use Rattle.session.specs.declared.ended.Cause.{Cause}
 use Rattle.session.specs.declared.ended.Cause.TheVariants as cause

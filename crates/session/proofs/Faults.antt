@@ -1,6 +1,6 @@
 -- A file that was not read, as the end of a run.
 use Rattle.std.proofs.Common.{◌≡◌, inl, inr, ℕ, ◌+◌, ◌≤◌, false, List, [], ◌∷◌, ◌++◌, Option, None, Some, refl, append-nil}
-use Rattle.mg_outside.specs.Effects.{Effects, HasRead, Performs}
+use Rattle.mg_outside.specs.Effects.{Effects, Performs}
 use Rattle.mg_outside.specs.Faults.{Rose}
 use Rattle.mg_outside.specs.Logs.{FileLog, SinkLog}
 use Rattle.mg_outside.specs.Reading.{AddsAtMost, Explains}

@@ -1,7 +1,7 @@
 -- An EXPLORE whose policies are known, and which asks of a list, asks of one that is loaded.
-use Rattle.std.proofs.Common.{◌≡◌, ℕ, true, false, List, [], ◌∷◌, ◌++◌, Option, Some, None, codes, refl, sym, ap, map, ◌∙◌}
+use Rattle.std.proofs.Common.{◌≡◌, ℕ, List, [], ◌∷◌, Option, Some, None, codes, refl, sym, ap, map, ◌∙◌}
 use Rattle.std.specs.List.{AllByRecursion, flat_map}
-use Rattle.std.specs.Option.{option_map}
+use Rattle.std.specs.Option.{option_map, option_or}
 use Rattle.ios_acl.specs.declared.entry.Verdict.{Verdict}
 use Rattle.ios_acl.specs.declared.entry.Verdict.TheVariants as verdict
 use Rattle.ios_acl.specs.List.{AccessList}
@@ -20,9 +20,13 @@ use Rattle.list_questions.specs.Ranges.{test_of}
 use Rattle.list_questions.proofs.MentionEquations.{mentions_and}
 use Rattle.session.specs.declared.ended.Reason.{Reason}
 use Rattle.session.specs.Library.{Loaded, list_of}
-use Rattle.session.specs.Policies.{atom_fault, decision_fault, explore_fault, first_fault, included_fault, list_names, or_else, under_fault}
+use Rattle.session.specs.Policies.{PolicyNames, atom_fault, decision_fault, explore_fault, first_fault, list_names}
 
-first_known : (one other : Option Reason) → or_else one other ≡ None → one ≡ None
+or_none : {A : Type 0} (found : Option A) → option_or found None ≡ found
+or_none (Some one) = refl
+or_none None = refl
+
+first_known : (one other : Option Reason) → option_or one other ≡ None → one ≡ None
 first_known None other known = refl
 first_known (Some why) other known = absurd cc
 
@@ -36,8 +40,8 @@ abbrev policy_atom : List ℕ → List ℕ → Verdict → PolicyAtom
 policy_atom router list v = record { path = record { parts = router ∷ codes "acl" ∷ list ∷ [] }; word = verdict_word v }
 
 decided_fault : (library : List Loaded) (router list : List ℕ) (v : Verdict) → atom_fault library (policy_atom router list v) ≡ decision_fault (option_map list_names (list_of library router list)) (verdict_word v)
-decided_fault library router list verdict.Permit = refl
-decided_fault library router list verdict.Deny = refl
+decided_fault library router list verdict.Permit = ap (λ (policy : Option PolicyNames). decision_fault policy (codes "permit")) (or_none (option_map list_names (list_of library router list)))
+decided_fault library router list verdict.Deny = ap (λ (policy : Option PolicyNames). decision_fault policy (codes "deny")) (or_none (option_map list_names (list_of library router list)))
 
 decided_known : (library : List Loaded) (router list : List ℕ) (v : Verdict) (others : List PolicyAtom) → first_fault library (policy_atom router list v ∷ others) ≡ None → (found : AccessList) × (list_of library router list ≡ Some found)
 decided_known library router list v others known =

@@ -8,7 +8,6 @@ pub mod Carried
 pub mod Ordered
 pub mod Completeness
 pub mod Blaming
-pub mod Findings
 pub mod Progress
 pub mod WholeRuns
 pub mod PacketLiterals

@@ -1,5 +1,5 @@
 -- What a statement does, over files that tell the same bytes.
-use Rattle.std.proofs.Common.{◌≡◌, ℕ, ◌+◌, List, Option}
+use Rattle.std.proofs.Common.{◌≡◌, ℕ, List, Option}
 use Rattle.mg_outside.specs.Effects.{Effects}
 use Rattle.mg_outside.specs.Logs.{FileLog, SinkLog}
 use Rattle.session.specs.declared.ended.Cause.{Cause}

@@ -1,5 +1,5 @@
 -- The order of a script's statements, as they are carried out.
-use Rattle.std.proofs.Common.{◌≡◌, ℕ, Bool, true, false, not, ◌||◌, ◌&&◌, List, [], ◌∷◌, Option, Some, None, is_some, refl, sym, ◌∙◌}
+use Rattle.std.proofs.Common.{◌≡◌, ℕ, Bool, true, false, not, ◌||◌, List, ◌∷◌, Option, Some, None, is_some, refl, sym, ◌∙◌}
 use Rattle.std.proofs.lemmas.Bool.{and_parts, false≢true}
 use Rattle.query_lang.specs.declared.script.Kind.{Kind}
 use Rattle.query_lang.specs.declared.script.Statement.{Statement}

@@ -1,5 +1,5 @@
 -- Eight literals that are numbers of their fields are a packet.
-use Rattle.std.proofs.Common.{◌≡◌, ◌<◌, ◌^◌, ℕ, Bool, true, false, nat_lt, List, [], ◌∷◌, length, Option, Some, None, refl, arith}
+use Rattle.std.proofs.Common.{◌≡◌, ℕ, Bool, true, false, List, [], ◌∷◌, length, Some, None, refl, arith}
 use Rattle.std.specs.Bool.{if◌then◌else◌}
 use Rattle.std.proofs.lemmas.Bool.{ltb-true}
 use Rattle.ios_acl.specs.declared.packet.Packet.{Packet}
@@ -8,9 +8,9 @@ use Rattle.ios_config.specs.declared.request.Field.TheVariants as field
 use Rattle.ios_config.specs.Request.{packet_fields}
 use Rattle.query_lang.specs.declared.literal.Literal.{Literal}
 use Rattle.query_lang.specs.declared.literal.Literal.TheVariants as literal
-use Rattle.list_questions.specs.declared.packet.LiteralFault.{LiteralFault}
 use Rattle.list_questions.specs.declared.packet.LiteralFault.TheVariants as fault
-use Rattle.list_questions.specs.Ranges.{ArePacket, fault_of, is_number_of, literal_fault, or_later}
+use Rattle.list_questions.specs.Ranges.{ArePacket, fault_of, is_number_of, literal_fault}
+use Rattle.list_questions.proofs.Literals.{neither}
 
 no_fault : (is : Bool) → (if is then None else Some fault.OutOfRange) ≡ None → is ≡ true
 no_fault true fits = refl
@@ -19,10 +19,6 @@ no_fault false fits = absurd cc
 number_of_fit : (f : Field) (l : Literal) → fault_of f l ≡ None → (n : ℕ) × (l ≡ literal.Number n) × (is_number_of f n ≡ true)
 number_of_fit f (literal.Number n) fits = (n, refl, no_fault (is_number_of f n) fits)
 number_of_fit f (literal.Interface name) fits = absurd cc
-
-neither : (one other : Option LiteralFault) → or_later one other ≡ None → (one ≡ None) × (other ≡ None)
-neither (Some why) other fits = absurd cc
-neither None other fits = (refl, fits)
 
 -- the first number, and what is said of the others
 record First (f : Field) (l : Literal) (fields : List Field) (literals : List Literal) : Type 0 where

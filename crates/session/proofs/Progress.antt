@@ -1,5 +1,5 @@
 -- A statement that is reached is carried out, or it ends the run.
-use Rattle.std.proofs.Common.{◌≡◌, ◌∙◌, inl, inr, ℕ, nat_eq, ◌||◌, not, Bool, true, false, List, [], ◌∷◌, length, Option, Some, None, is_some, refl, sym, arith}
+use Rattle.std.proofs.Common.{◌≡◌, inl, inr, ℕ, ◌||◌, not, Bool, true, false, List, [], length, Option, Some, None, is_some, refl, arith}
 use Rattle.std.specs.List.{list_all}
 use Rattle.std.proofs.lemmas.Bool.{cases_lt, false≢true}
 use Rattle.mg_outside.specs.Reading.{Gives}
@@ -22,11 +22,11 @@ use Rattle.session.specs.Text.{scenario, no_scenario}
 use Rattle.session.specs.declared.ended.Cause.{Cause}
 use Rattle.session.specs.declared.ended.Cause.TheVariants as cause
 use Rattle.session.specs.declared.ended.Reason.{Reason}
-use Rattle.session.specs.Library.{is_taken, list_of}
+use Rattle.session.specs.Library.{is_taken, list_at_path, list_of}
 use Rattle.session.specs.Order.{is_show}
 use Rattle.session.specs.Policies.{explore_fault}
 use Rattle.session.specs.RunLines.{refused_line}
-use Rattle.session.specs.Steps.{State, max_bytes, list_at_path, Carries, loads, explores, shows, decides, first, none as no_first, reason_of, too_long, IsRefusal, IsRefused, not_built, taken, unknown, no_question, past, no_list, arity, literal, Stops, refused, unread, refused_file}
+use Rattle.session.specs.Steps.{State, max_bytes, Carries, loads, explores, shows, decides, first, none as no_first, reason_of, too_long, IsRefusal, IsRefused, not_built, taken, unknown, no_question, past, no_list, arity, literal, Stops, refused, unread, refused_file}
 use Rattle.session.proofs.Known.{asked_is_found}
 
 pub data Outcome (script : List ℕ) (told : List ℕ → Option (List ℕ)) (line : ℕ) (state : State) (what : Kind) : Type 0 where

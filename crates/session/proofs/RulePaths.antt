@@ -1,5 +1,5 @@
 -- The rule that a path names, and the policy before it.
-use Rattle.std.proofs.Common.{◌≡◌, ◌∙◌, ℕ, suc, ◌-◌, ◌≤◌, List, [], ◌∷◌, length, take, get_or, refl, ap, arith}
+use Rattle.std.proofs.Common.{◌≡◌, ◌∙◌, ℕ, ◌-◌, ◌≤◌, List, [], ◌∷◌, length, take, get_or, refl, ap, arith}
 use Rattle.session.specs.Library.{Loaded}
 use Rattle.session.specs.Policies.{front_of, last_of, path_rule_fault, policy_at, rule_fault}
 

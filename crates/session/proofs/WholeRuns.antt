@@ -1,5 +1,5 @@
 -- A run that is cut short could go on, so that what it wrote is a front of the text of a whole run.
-use Rattle.std.proofs.Common.{◌≡◌, inl, inr, ℕ, ◌+◌, Bool, true, false, List, [], ◌∷◌, ◌++◌, length, Option, Some, None, is_some, refl, sym, ap, ◌∙◌, arith, append_assoc, append-nil}
+use Rattle.std.proofs.Common.{◌≡◌, inl, inr, ℕ, Bool, true, false, List, [], ◌∷◌, ◌++◌, length, Option, Some, None, is_some, refl, sym, ap, ◌∙◌, arith, append_assoc, append-nil}
 use Rattle.std.proofs.lemmas.Bool.{cases_lt}
 use Rattle.mg_outside.specs.Effects.{Effects, IsFrontOfSome, Performs, behind, joined}
 use Rattle.mg_outside.specs.Logs.{FileLog, SinkLog}
@@ -8,7 +8,6 @@ use Rattle.mg_outside.proofs.EffectLaws.{is_front_of_longer, joined-append}
 use Rattle.session.specs.declared.ended.Cause.{Cause}
 use Rattle.session.specs.declared.ended.Cause.TheVariants as cause
 use Rattle.session.specs.Run.{AreCarriedOut, all, next, ends, EndsAt, stops as stops_at, cut, wants, IsCutShort, NeverCut, IsCut, refused, unkept, IsSaid, whole, cut as cut_line, unmade, IsScriptRun, unread, refused as refused_script, read, wants as wants_script, IsRun, bad_words, form, effects, no_routers}
-use Rattle.query_lang.specs.declared.script.Kind.{Kind}
 use Rattle.query_lang.specs.declared.script.Script.{Script}
 use Rattle.query_lang.specs.declared.script.Statement.{Statement}
 use Rattle.query_lang.specs.Readings as query

@@ -16,3 +16,9 @@ BlamesFiles before now (cause.ReadFault file) = Rose (before.faults file) (now.f
 BlamesFiles before now cause.WriteFault = Unit {0}
 BlamesFiles before now cause.NoMemory = Unit {0}
 BlamesFiles before now end = (name : List ℕ) → now.faults name ≡ before.faults name
+
+abbrev pub NoReadFailed : FileLog → FileLog → Type 0
+NoReadFailed before now = (name : List ℕ) → Rose (before.faults name) (now.faults name) → ⊥
+
+abbrev pub NoWriteFailed : SinkLog → SinkLog → Type 0
+NoWriteFailed before now = Rose before.faults now.faults → ⊥

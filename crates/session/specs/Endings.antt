@@ -1,5 +1,5 @@
 -- What the calls of a run say of what they did. No public call is stated by this.
-use Rattle.std.specs.Prelude.{◌≡◌, ℕ, Bool, true, false, List, [], ◌∷◌, length, Option, None}
+use Rattle.std.specs.Prelude.{◌≡◌, ℕ, Bool, false, List, [], ◌∷◌, length, Option, None}
 use Rattle.mg_outside.specs.Effects.{HasRead, HasWritten}
 use Rattle.mg_outside.specs.Logs.{FileLog, SinkLog}
 use Rattle.mg_outside.specs.declared.files.FileFault.{FileFault}
@@ -8,6 +8,7 @@ use Rattle.mg_outside.specs.declared.sink.SinkFault.{SinkFault}
 use Rattle.mg_outside.specs.declared.sink.SinkFault.TheVariants as sink
 use Rattle.session.specs.declared.ended.Cause.{Cause}
 use Rattle.session.specs.declared.ended.Cause.TheVariants as cause
+use Rattle.session.specs.declared.ended.Reason.{Reason}
 use Rattle.session.specs.declared.ended.Reason.TheVariants as reason
 use Rattle.ios_config.specs.Reading.{Router}
 use Rattle.session.specs.Text.{loaded_line}
@@ -41,10 +42,14 @@ pub record Says (before now : SinkLog) (stop : Cause) (line : List ℕ) (end : C
   pub is_said : IsSaid IsCutShort stop line writes refused end
   pub written : HasWritten before now writes refused
 
+-- a run ends with the refusal of a line of a file, or that is cut or can't be made
+abbrev pub EndsRefused : List ℕ → ℕ → Reason → SinkLog → SinkLog → Cause → Type 0
+EndsRefused file line why before now end = Says before now (cause.Refused file line why) (refused_line file line why) end
+
 -- what a fault of a read makes the run end with; at want of memory nothing is written
 abbrev pub EndsUnread : List ℕ → FileFault → SinkLog → SinkLog → Cause → Type 0
 EndsUnread file fault.Failed before now end = Says before now (cause.ReadFault file) (fault_line file) end
-EndsUnread file (fault.TooLong given) before now end = Says before now (cause.Refused file 0 (reason.TooLong given)) (refused_line file 0 (reason.TooLong given)) end
+EndsUnread file (fault.TooLong given) before now end = EndsRefused file 0 (reason.TooLong given) before now end
 EndsUnread file fault.NoMemory before now end = (end ≡ cause.NoMemory) × HasWritten before now [] false
 
 -- a cause that speaks neither of the sink nor of memory

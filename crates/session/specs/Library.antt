@@ -10,9 +10,13 @@ pub record Loaded : Type 0 where
   pub name : List ℕ
   pub router : Router
 
+-- a router of this name is loaded
+abbrev pub is_router : List Loaded → List ℕ → Bool
+is_router library name = list_any (λ (loaded : Loaded). bytes_eq name loaded.name) library
+
 -- the name is that of a router, or of the built-in vocabulary
 abbrev pub is_taken : List Loaded → List ℕ → Bool
-is_taken library name = bytes_eq name (codes "net") || list_any (λ (loaded : Loaded). bytes_eq name loaded.name) library
+is_taken library name = bytes_eq name (codes "net") || is_router library name
 
 -- a list without entries is not defined
 abbrev pub is_defined : AccessList → Bool
@@ -30,3 +34,8 @@ abbrev pub list_of : List Loaded → List ℕ → List ℕ → Option AccessList
 list_of [] router name = None
 list_of (loaded ∷ library) router name =
     if bytes_eq router loaded.name then list_among (defined_lists loaded.router) name else list_of library router name
+
+-- the defined list under the path ROUTER.acl.LIST
+abbrev pub list_at_path : List Loaded → List (List ℕ) → Option AccessList
+list_at_path library (router ∷ part ∷ name ∷ []) = if bytes_eq part (codes "acl") then list_of library router name else None
+list_at_path library other = None

@@ -1,5 +1,5 @@
 -- A run: what it does with the files and the sink, and what it ends with, in the order of its steps.
-use Rattle.std.specs.Prelude.{◌≡◌, ℕ, ◌+◌, Bool, true, false, List, [], ◌∷◌, ◌++◌, Option, None}
+use Rattle.std.specs.Prelude.{◌≡◌, ℕ, Bool, true, false, List, [], ◌∷◌, ◌++◌, Option, None}
 use Rattle.mg_outside.specs.Effects.{Effects, behind}
 use Rattle.mg_outside.specs.Reading.{Gives}
 use Rattle.session.specs.declared.ended.Cause.{Cause}

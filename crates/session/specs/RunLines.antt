@@ -32,6 +32,8 @@ reason_word reason.BadEntry = codes "BadEntry"
 reason_word reason.NextHopNotConnected = codes "NextHopNotConnected"
 reason_word reason.UnknownInterface = codes "UnknownInterface"
 reason_word reason.DuplicateStatic = codes "DuplicateStatic"
+reason_word reason.DuplicatePool = codes "DuplicatePool"
+reason_word reason.UnknownPool = codes "UnknownPool"
 reason_word reason.Unclosed = codes "Unclosed"
 reason_word reason.TooMany = codes "TooMany"
 

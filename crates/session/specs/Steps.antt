@@ -1,8 +1,7 @@
 -- What one statement of a script does in a run.
-use Rattle.std.specs.Prelude.{◌≡◌, ℕ, ◌<◌, ◌≤◌, Bool, true, false, List, [], ◌∷◌, ◌++◌, length, map, Option, Some, None, IfSome, codes}
+use Rattle.std.specs.Prelude.{◌≡◌, ℕ, ◌<◌, ◌≤◌, Bool, true, false, List, [], ◌∷◌, ◌++◌, length, map, Option, Some, None, IfSome}
 use Rattle.std.specs.Bool.{if◌then◌else◌}
 use Rattle.std.specs.List.{list_all}
-use Rattle.std.specs.Str.{bytes_eq}
 use Rattle.mg_outside.specs.Reading.{Gives}
 use Rattle.ios_lex.specs.declared.reason.IosReason.{IosReason}
 use Rattle.ios_lex.specs.declared.reason.IosReason.TheVariants as ios
@@ -24,7 +23,7 @@ use Rattle.list_questions.specs.declared.packet.LiteralFault.{LiteralFault}
 use Rattle.list_questions.specs.declared.packet.LiteralFault.TheVariants as packet_fault
 use Rattle.list_questions.specs.declared.question.ListQuestion.{ListQuestion}
 use Rattle.list_questions.specs.Ranges.{ArePacket, literal_fault, test_fits, test_of}
-use Rattle.list_questions.specs.Questions.{IsAsked}
+use Rattle.list_questions.specs.Questions.{AsksNone, IsAsked}
 use Rattle.frame.specs.Question.{Question, asked}
 use Rattle.frame.specs.Solution.{Solves}
 use Rattle.frame.specs.Scenario.{IsFirst}
@@ -33,7 +32,7 @@ use Rattle.session.specs.declared.ended.Cause.{Cause}
 use Rattle.session.specs.declared.ended.Cause.TheVariants as cause
 use Rattle.session.specs.declared.ended.Reason.{Reason}
 use Rattle.session.specs.declared.ended.Reason.TheVariants as reason
-use Rattle.session.specs.Library.{Loaded, is_taken, defined_lists, list_of}
+use Rattle.session.specs.Library.{Loaded, is_taken, defined_lists, list_of, list_at_path}
 use Rattle.session.specs.Policies.{explore_fault}
 use Rattle.session.specs.RunLines.{fault_line, refused_line}
 
@@ -63,11 +62,6 @@ pub data IsShown (question : Question) : List ℕ → Type 0 where
   first : (request : Request) → IsFirst question request → IsShown question (scenario question.tests request)
   none : ((request : Request) → Solves question request → ⊥) → IsShown question no_scenario
 
--- the defined list under the path ROUTER.acl.LIST
-abbrev pub list_at_path : List Loaded → List (List ℕ) → Option AccessList
-list_at_path library (router ∷ part ∷ name ∷ []) = if bytes_eq part (codes "acl") then list_of library router name else None
-list_at_path library other = None
-
 -- the statement is carried out: it writes these pieces, and leaves this state
 pub data Carries (told : List ℕ → Option (List ℕ)) (state : State) : Kind → List (List ℕ) → State → Type 0 where
   loads : (file name bytes : List ℕ) (router : config.Router) → is_taken state.library name ≡ false
@@ -94,6 +88,8 @@ ios_reason ios.BadEntry = reason.BadEntry
 ios_reason ios.NextHopNotConnected = reason.NextHopNotConnected
 ios_reason ios.UnknownInterface = reason.UnknownInterface
 ios_reason ios.DuplicateStatic = reason.DuplicateStatic
+ios_reason ios.DuplicatePool = reason.DuplicatePool
+ios_reason ios.UnknownPool = reason.UnknownPool
 ios_reason ios.Unclosed = reason.Unclosed
 ios_reason ios.TooMany = reason.TooMany
 
@@ -137,8 +133,7 @@ pub data IsRefused (library : List Loaded) : Kind → Reason → Type 0 where
   taken : (file name : List ℕ) → is_taken library name ≡ true → IsRefused library (kind.LoadIos file name) reason.Duplicate
   -- EXPLORE: a policy or a name of it is unknown; it is no question about a list; a number does not fit
   unknown : (explore : Explore) (why : Reason) → explore_fault library explore ≡ Some why → IsRefused library (kind.Explore explore) why
-  no_question : (explore : Explore) → explore_fault library explore ≡ None → ((question : ListQuestion) → IsAsked explore question → ⊥)
-      → IsRefused library (kind.Explore explore) reason.NotBuilt
+  no_question : (explore : Explore) → explore_fault library explore ≡ None → AsksNone explore → IsRefused library (kind.Explore explore) reason.NotBuilt
   past : (explore : Explore) (question : ListQuestion) → explore_fault library explore ≡ None → IsAsked explore question
       → list_all test_fits question.tests ≡ false → IsRefused library (kind.Explore explore) reason.OutOfRange
   -- DECIDE: the list is unknown; there are not eight numbers; one of them does not fit, or is a name

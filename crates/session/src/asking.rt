@@ -30,9 +30,11 @@ pub fn explore<S: Sink>(
     out: &mut S,
 ) -> Result<(), Cause>
     ensures carried { (told : List ℕ → Option (List ℕ)) (files : FileLog) → OnOk result
-        (IsCarriedOut told state.old (kind.Explore explore.now) state.new files files (S.log out.old) (S.log out.new)) }
-    ensures stopped { (told : List ℕ → Option (List ℕ)) (files : FileLog) → IfErr result (Performs
-        (EndsAt IsCutShort at.now.script.now told at.now.number state.old (kind.Explore explore.now)) files files (S.log out.old) (S.log out.new)) }
+        (IsCarriedOut told state.old (kind.Explore explore.now) state.new
+        files files (S.log out.old) (S.log out.new)) }
+    ensures stopped { (told : List ℕ → Option (List ℕ)) (files : FileLog) → IfErr result
+        (Performs (EndsAt IsCutShort at.now.script.now told at.now.number
+        state.old (kind.Explore explore.now)) files files (S.log out.old) (S.log out.new)) }
 {
     match state.fault_of(alloc, explore) {
         Ok(None) => explore_known(alloc, at, explore, state, out),
@@ -51,9 +53,11 @@ fn explore_known<S: Sink>(
 ) -> Result<(), Cause>
     requires { explore_fault state.old.library explore.now ≡ None }
     ensures carried { (told : List ℕ → Option (List ℕ)) (files : FileLog) → OnOk result
-        (IsCarriedOut told state.old (kind.Explore explore.now) state.new files files (S.log out.old) (S.log out.new)) }
-    ensures stopped { (told : List ℕ → Option (List ℕ)) (files : FileLog) → IfErr result (Performs
-        (EndsAt IsCutShort at.now.script.now told at.now.number state.old (kind.Explore explore.now)) files files (S.log out.old) (S.log out.new)) }
+        (IsCarriedOut told state.old (kind.Explore explore.now) state.new
+        files files (S.log out.old) (S.log out.new)) }
+    ensures stopped { (told : List ℕ → Option (List ℕ)) (files : FileLog) → IfErr result
+        (Performs (EndsAt IsCutShort at.now.script.now told at.now.number
+        state.old (kind.Explore explore.now)) files files (S.log out.old) (S.log out.new)) }
 {
     let question = match question_of(alloc, explore) {
         Ok(Some(question)) => question,
@@ -89,9 +93,12 @@ fn all_fit(tests: &[FieldTest]) -> bool
 pub fn show<S: Sink>(alloc: Global, state: &State, out: &mut S) -> Result<(), Cause>
     requires { IsSome state.now.question }
     ensures carried { (told : List ℕ → Option (List ℕ)) (files : FileLog) → OnOk result
-        (IsCarriedOut told state.now kind.ShowOne state.now files files (S.log out.old) (S.log out.new)) }
-    ensures stopped { (script : List ℕ) (told : List ℕ → Option (List ℕ)) (line : ℕ) (files : FileLog) → IfErr result (Performs
-        (EndsAt IsCutShort script told line state.now kind.ShowOne) files files (S.log out.old) (S.log out.new)) }
+        (IsCarriedOut told state.now kind.ShowOne state.now
+        files files (S.log out.old) (S.log out.new)) }
+    ensures stopped { (script : List ℕ) (told : List ℕ → Option (List ℕ)) (line : ℕ)
+        (files : FileLog) → IfErr result (Performs
+        (EndsAt IsCutShort script told line state.now kind.ShowOne)
+        files files (S.log out.old) (S.log out.new)) }
 {
     let Some(question) = state.question() else {
         unreachable!();
@@ -105,7 +112,9 @@ pub fn show<S: Sink>(alloc: Global, state: &State, out: &mut S) -> Result<(), Ca
 /// The text of the first scenario, or that there is none.
 fn shown_text(alloc: Global, question: &Question<'_>) -> Result<String, AllocError>
     requires { AllByRecursion IsAskable question.now.tests.now }
-    ensures { IfOk result (λ text. IsShown (asked question.now.entries.now question.now.verdict question.now.tests.now) (string_bytes text)) }
+    ensures { IfOk result (λ text. IsShown
+        (asked question.now.entries.now question.now.verdict question.now.tests.now)
+        (string_bytes text)) }
 {
     let first = first_packet(alloc, question.entries, question.verdict, question.tests)?;
     match first {

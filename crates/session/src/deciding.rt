@@ -25,9 +25,11 @@ pub fn decide<S: Sink>(
     out: &mut S,
 ) -> Result<(), Cause>
     ensures carried { (told : List ℕ → Option (List ℕ)) (files : FileLog) → OnOk result
-        (IsCarriedOut told state.now (kind.Decide path.now packet.now) state.now files files (S.log out.old) (S.log out.new)) }
-    ensures stopped { (told : List ℕ → Option (List ℕ)) (files : FileLog) → IfErr result (Performs
-        (EndsAt IsCutShort at.now.script.now told at.now.number state.now (kind.Decide path.now packet.now)) files files (S.log out.old) (S.log out.new)) }
+        (IsCarriedOut told state.now (kind.Decide path.now packet.now) state.now
+        files files (S.log out.old) (S.log out.new)) }
+    ensures stopped { (told : List ℕ → Option (List ℕ)) (files : FileLog) → IfErr result
+        (Performs (EndsAt IsCutShort at.now.script.now told at.now.number
+        state.now (kind.Decide path.now packet.now)) files files (S.log out.old) (S.log out.new)) }
 {
     let Some(list) = state.list_at_path(path.parts.as_slice()) else {
         return Err(refuse_line(alloc, at, Reason::UnknownPolicy, out));

@@ -42,6 +42,8 @@ pub enum Reason {
     NextHopNotConnected,
     UnknownInterface,
     DuplicateStatic,
+    DuplicatePool,
+    UnknownPool,
     /// A banner without an end.
     Unclosed,
     /// The list is full.
@@ -88,6 +90,8 @@ impl Reason {
             IosReason::NextHopNotConnected => Reason::NextHopNotConnected,
             IosReason::UnknownInterface => Reason::UnknownInterface,
             IosReason::DuplicateStatic => Reason::DuplicateStatic,
+            IosReason::DuplicatePool => Reason::DuplicatePool,
+            IosReason::UnknownPool => Reason::UnknownPool,
             IosReason::Unclosed => Reason::Unclosed,
             IosReason::TooMany => Reason::TooMany,
         }

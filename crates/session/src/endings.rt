@@ -1,7 +1,7 @@
 ghost use Rattle.std.specs.Prelude.{◌≡◌, ◌∷◌, [], false, OnOk, IfErr};
 ghost use Rattle.mg_outside.specs.Effects.{HasWritten};
-ghost use Rattle.session.specs.Endings.{CutsPiece, EndsUnread, IsTold, Says, cause_of};
-ghost use Rattle.session.specs.RunLines.{fault_line, refused_line};
+ghost use Rattle.session.specs.Endings.{CutsPiece, EndsRefused, EndsUnread, IsTold, Says, cause_of};
+ghost use Rattle.session.specs.RunLines.{fault_line};
 
 use crate::ended::{Cause, Reason};
 use crate::run_lines::{fault_text, refused_text};
@@ -19,7 +19,8 @@ pub struct Line<'a> {
 
 /// Writes a text of a run that goes on.
 pub fn write<S: Sink>(out: &mut S, text: &[u8]) -> Result<(), Cause>
-    ensures written { OnOk result (HasWritten (S.log out.old) (S.log out.new) (text.now ∷ []) false) }
+    ensures written { OnOk result
+        (HasWritten (S.log out.old) (S.log out.new) (text.now ∷ []) false) }
     ensures cut { IfErr result (CutsPiece (S.log out.old) (S.log out.new) text.now) }
 {
     match out.write_all(text) {
@@ -51,7 +52,7 @@ pub fn cause_of(fault: SinkFault) -> Cause
 
 /// Ends the run with the refusal of a line of a file; line 0 is the file as a whole.
 pub fn refuse<S: Sink>(alloc: Global, file: &str, line: u64, reason: Reason, out: &mut S) -> Cause
-    ensures { Says (S.log out.old) (S.log out.new) (Cause.Refused file.now line reason) (refused_line file.now line reason) result }
+    ensures { EndsRefused file.now line reason (S.log out.old) (S.log out.new) result }
 {
     let Ok(text) = refused_text(alloc, file, line, &reason) else {
         return Cause::NoMemory;
@@ -69,8 +70,8 @@ pub fn refuse<S: Sink>(alloc: Global, file: &str, line: u64, reason: Reason, out
 
 /// Ends the run with the refusal of a line of the script.
 pub fn refuse_line<S: Sink>(alloc: Global, at: &Line<'_>, reason: Reason, out: &mut S) -> Cause
-    ensures { Says (S.log out.old) (S.log out.new) (Cause.Refused at.now.script.now at.now.number reason)
-        (refused_line at.now.script.now at.now.number reason) result }
+    ensures { EndsRefused at.now.script.now at.now.number reason
+        (S.log out.old) (S.log out.new) result }
 {
     refuse(alloc, at.script, at.number, reason, out)
 }
@@ -88,7 +89,8 @@ pub fn end_unread<S: Sink>(alloc: Global, file: &str, fault: FileFault, out: &mu
 
 /// Ends the run with a read that failed.
 fn fail<S: Sink>(alloc: Global, file: &str, out: &mut S) -> Cause
-    ensures { Says (S.log out.old) (S.log out.new) (Cause.ReadFault file.now) (fault_line file.now) result }
+    ensures { Says (S.log out.old) (S.log out.new)
+        (Cause.ReadFault file.now) (fault_line file.now) result }
 {
     let Ok(text) = fault_text(alloc, file) else {
         return Cause::NoMemory;

@@ -1,8 +1,9 @@
 ghost use Rattle.std.specs.Prelude.{◌≡◌, ◌<◌, ◌&&◌, length, slice_get, IfSome};
-ghost use Rattle.std.specs.List.{filter, list_any};
+ghost use Rattle.std.specs.List.{filter};
 ghost use Rattle.std.specs.Option.{option_and_then};
 ghost use Rattle.std.specs.Str.{bytes_eq};
-ghost use Rattle.session.specs.Library.{Loaded as Meaning, is_defined, list_among};
+ghost use Rattle.session.specs.Library as specs;
+ghost use Rattle.session.specs.Library.{is_defined, list_among};
 
 use ios_acl::Acl;
 use ios_config::Router;
@@ -66,7 +67,8 @@ fn is_defined_as(list: &Acl, name: &str) -> bool
 
 /// The place of the defined list of this name.
 pub fn place_among(lists: &[Acl], name: &str) -> Option<usize>
-    ensures found { option_and_then (slice_get lists.now) result ≡ list_among (filter is_defined lists.now) name.now }
+    ensures found { option_and_then (slice_get lists.now) result
+        ≡ list_among (filter is_defined lists.now) name.now }
     ensures within { IfSome result (λ place. place < length lists.now) }
 {
     for place in 0..lists.len() {
@@ -79,7 +81,7 @@ pub fn place_among(lists: &[Acl], name: &str) -> Option<usize>
 
 /// Whether a router of this name is loaded.
 pub fn is_router(library: &[Loaded], name: &str) -> bool
-    ensures { result ≡ list_any (λ (loaded : Meaning). bytes_eq name.now loaded.name) library.now }
+    ensures { result ≡ specs.is_router library.now name.now }
 {
     for loaded in library {
         if name.as_bytes() == loaded.name().bytes() {

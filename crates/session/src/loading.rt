@@ -28,9 +28,12 @@ pub fn load<F: Files, S: Sink>(
     files: &mut F,
     out: &mut S,
 ) -> Result<(), Cause>
-    ensures carried { OnOk result (IsCarriedOut (F.holds files.old) state.old (kind.LoadIos file.now name.now) state.new
+    ensures carried { OnOk result (IsCarriedOut
+        (F.holds files.old) state.old (kind.LoadIos file.now name.now) state.new
         (F.log files.old) (F.log files.new) (S.log out.old) (S.log out.new)) }
-    ensures stopped { IfErr result (Performs (EndsAt IsCutShort at.now.script.now (F.holds files.old) at.now.number state.old (kind.LoadIos file.now name.now))
+    ensures stopped { IfErr result (Performs
+        (EndsAt IsCutShort at.now.script.now (F.holds files.old) at.now.number
+        state.old (kind.LoadIos file.now name.now))
         (F.log files.old) (F.log files.new) (S.log out.old) (S.log out.new)) }
     ensures same { (other : List ℕ) → F.holds files.new other ≡ F.holds files.old other }
 {
@@ -63,8 +66,10 @@ fn add_router<S: Sink>(
     out: &mut S,
 ) -> Result<(), Cause>
     ensures added { OnOk result (state.new ≡ with_router state.old name.now router) }
-    ensures written { OnOk result (HasWritten (S.log out.old) (S.log out.new) (router_line name.now router ∷ []) false) }
-    ensures cut { IfErr result (CutsOrWants (S.log out.old) (S.log out.new) (router_line name.now router)) }
+    ensures written { OnOk result
+        (HasWritten (S.log out.old) (S.log out.new) (router_line name.now router ∷ []) false) }
+    ensures cut { IfErr result
+        (CutsOrWants (S.log out.old) (S.log out.new) (router_line name.now router)) }
 {
     let lists = defined_count(router.lists.as_slice());
     let Ok(text) = loaded_text(alloc, name, lists, router.ignored) else {

@@ -130,7 +130,8 @@ fn rule_fault(
     policy: Option<Policy<'_>>,
     rule: &Text,
 ) -> Result<Option<Reason>, AllocError>
-    ensures { IfOk result (λ fault. fault ≡ specs.rule_fault (option_map names_of policy.entry) rule.now) }
+    ensures { IfOk result (λ fault.
+        fault ≡ specs.rule_fault (option_map names_of policy.entry) rule.now) }
 {
     let Some(policy) = policy else {
         return Ok(Some(Reason::UnknownPolicy));

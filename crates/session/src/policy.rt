@@ -1,13 +1,10 @@
-ghost use Rattle.std.specs.Prelude.{◌≡◌, IfOk, map, false};
-ghost use Rattle.std.specs.Fmt.{decimal};
+ghost use Rattle.std.specs.Prelude.{◌≡◌, IfOk, false};
 ghost use Rattle.std.specs.Option.{option_map};
-ghost use Rattle.ios_acl.specs.declared.entry.Entry.{Entry as AnyEntry};
-ghost use Rattle.session.specs.Library.{list_of};
 ghost use Rattle.session.specs.Policies as specs;
 ghost use Rattle.session.specs.Policies.{is_among, names_of};
 
 use crate::library::{Loaded, is_router};
-use crate::locate::list_of;
+use crate::locate::list_at_path;
 use ios_acl::{Acl, Entry};
 use sorted_logic::Text;
 use std::alloc::{AllocError, Global};
@@ -28,39 +25,25 @@ pub enum Policy<'a> {
 pub fn policy_at<'a>(library: &'a [Loaded], parts: &[Text]) -> Option<Policy<'a>>
     ensures { option_map names_of result ≡ specs.policy_at library.now parts.now }
 {
-    match parts {
-        [router, name] => policy_of(library, router, name),
-        [router, kind, name] => list_policy(library, router, kind, name),
-        _ => None,
-    }
-}
-
-/// The policy of this name, beside its lists, of the router of this name.
-fn policy_of(library: &[Loaded], router: &Text, name: &Text) -> Option<Policy<'static>>
-    ensures { option_map names_of result ≡ specs.policy_of library.now router.now name.now }
-{
-    if is_router(library, router.as_str()) {
-        router_policy(name)
-    } else {
-        None
-    }
-}
-
-/// The list of this name, of the router of this name, where the word between them is `acl`.
-fn list_policy<'a>(
-    library: &'a [Loaded],
-    router: &Text,
-    kind: &Text,
-    name: &Text,
-) -> Option<Policy<'a>>
-    ensures { option_map names_of result ≡ specs.list_policy library.now router.now kind.now name.now }
-{
-    if kind.as_str() != "acl" {
-        return None;
-    }
-    match list_of(library, router.as_str(), name.as_str()) {
+    match list_at_path(library, parts) {
         Some(list) => Some(Policy::List(list)),
-        None => None,
+        None => other_policy(library, parts),
+    }
+}
+
+/// The policy under the path of a router that is loaded and of the name of another policy than a list.
+fn other_policy(library: &[Loaded], parts: &[Text]) -> Option<Policy<'static>>
+    ensures { option_map names_of result ≡ specs.other_policy library.now parts.now }
+{
+    match parts {
+        [router, name] => {
+            if is_router(library, router.as_str()) {
+                router_policy(name)
+            } else {
+                None
+            }
+        }
+        _ => None,
     }
 }
 
@@ -119,7 +102,7 @@ fn is_rule(alloc: Global, list: &Acl, rule: &Text) -> Result<bool, AllocError>
 
 /// Whether the name is the number of one of the entries.
 fn is_numbered(alloc: Global, entries: &[Entry], rule: &Text) -> Result<bool, AllocError>
-    ensures { IfOk result (λ has. has ≡ is_among (map (λ (entry : AnyEntry). decimal entry.number) entries.now) rule.now) }
+    ensures { IfOk result (λ has. has ≡ is_among (specs.entry_names entries.now) rule.now) }
 {
     for entry in entries {
         let number = entry.number;

@@ -1,8 +1,7 @@
-ghost use Rattle.std.specs.Prelude.{◌≡◌, ◌⊎◌, ℕ, List, map};
+ghost use Rattle.std.specs.Prelude.{◌≡◌, ◌⊎◌, map};
 ghost use Rattle.std.specs.String.{string_bytes};
 ghost use Rattle.mg_outside.specs.Effects.{IsFrontOfSome, Performs};
-ghost use Rattle.mg_outside.specs.Faults.{Rose};
-ghost use Rattle.session.specs.Blame.{BlamesFiles, BlamesSink};
+ghost use Rattle.session.specs.Blame.{BlamesFiles, BlamesSink, NoReadFailed, NoWriteFailed};
 ghost use Rattle.session.specs.Complete.{IsAnswerable};
 ghost use Rattle.session.specs.Run.{IsCutShort, IsRun, IsScriptRun, NeverCut, status_of};
 
@@ -23,8 +22,8 @@ use std::alloc::Global;
 pub fn run<F: Files, S: Sink>(alloc: Global, words: &[String], files: &mut F, out: &mut S) -> Ended
     ensures status { result.status ≡ status_of result.cause }
 
-    // What is read, which read failed, what is taken of each write, and why the run ended: those of a run over the bytes
-    // that the files told.
+    // What is read, which read failed, what is taken of each write, and why the run ended: those of a run over
+    // the bytes that the files told.
     ensures headline { Performs (IsRun IsCutShort (map string_bytes words.now) (F.holds files.old))
         (F.log files.old) (F.log files.new) (S.log out.old) (S.log out.new) result.cause }
 
@@ -38,8 +37,8 @@ pub fn run<F: Files, S: Sink>(alloc: Global, words: &[String], files: &mut F, ou
 
     // A script that can be answered is answered, unless a fault comes or memory is wanting.
     ensures complete { IsAnswerable (map string_bytes words.now) (F.holds files.old)
-        → ((file : List ℕ) → Rose ((F.log files.old).faults file) ((F.log files.new).faults file) → ⊥)
-        → (Rose (S.log out.old).faults (S.log out.new).faults → ⊥)
+        → NoReadFailed (F.log files.old) (F.log files.new)
+        → NoWriteFailed (S.log out.old) (S.log out.new)
         → (result.cause ≡ Cause.Done) ⊎ (result.cause ≡ Cause.NoMemory) }
 {
     let Some(name) = script_of(words) else {

@@ -58,6 +58,8 @@ fn push_reason(text: &mut Vec<u8>, reason: &Reason) -> Result<(), AllocError>
         Reason::NextHopNotConnected => text.extend_from_slice(b"NextHopNotConnected"),
         Reason::UnknownInterface => text.extend_from_slice(b"UnknownInterface"),
         Reason::DuplicateStatic => text.extend_from_slice(b"DuplicateStatic"),
+        Reason::DuplicatePool => text.extend_from_slice(b"DuplicatePool"),
+        Reason::UnknownPool => text.extend_from_slice(b"UnknownPool"),
         Reason::Unclosed => text.extend_from_slice(b"Unclosed"),
         Reason::TooMany => text.extend_from_slice(b"TooMany"),
     }

@@ -4,14 +4,14 @@ ghost use Rattle.std.specs.Option.{option_and_then, option_map};
 ghost use Rattle.ios_acl.specs.List.{AccessList};
 ghost use Rattle.frame.specs.Question.{asked, IsOfPacket};
 ghost use Rattle.session.specs.Kept.{IsPlace, list_at};
-ghost use Rattle.session.specs.Library.{is_taken, list_of};
+ghost use Rattle.session.specs.Library.{is_taken, list_at_path, list_of};
 ghost use Rattle.session.specs.Policies as specs;
 ghost use Rattle.session.specs.Run.{no_routers};
-ghost use Rattle.session.specs.Steps.{asking, list_at_path, with_router};
+ghost use Rattle.session.specs.Steps.{asking, with_router};
 
 use crate::ended::Reason;
 use crate::library::{Loaded, is_router};
-use crate::locate::{Place, list_at, list_of, place_of};
+use crate::locate::{Place, list_at, list_at_path, place_of};
 use crate::policies::explore_fault;
 use frame::Test;
 use ios_acl::{Acl, Entry, Verdict};
@@ -51,7 +51,10 @@ impl Model for State {
 
     ghost Value = { Meaning };
 
-    ghost view = { λ s. record { library = s.library.items; question = question_at s.library.items s.kept } };
+    ghost view = { λ s. record {
+      library = s.library.items;
+      question = question_at s.library.items s.kept;
+    } };
 
     ghost invariant = { λ s. IsKept s.library.items s.kept };
 }
@@ -84,7 +87,8 @@ impl State {
 
     /// Where the defined list of this name stands, of the router of this name.
     pub fn place_of(&self, router: &str, list: &str) -> Option<Place>
-        ensures found { option_and_then (list_at self.now.library) result ≡ list_of self.now.library router.now list.now }
+        ensures found { option_and_then (list_at self.now.library) result
+            ≡ list_of self.now.library router.now list.now }
         ensures place { IfSome result (IsPlace self.now.library) }
     {
         place_of(self.library.as_slice(), router, list)
@@ -102,16 +106,7 @@ impl State {
     pub fn list_at_path(&self, parts: &[Text]) -> Option<&Acl>
         ensures { option_map (λ list. list.now) result ≡ list_at_path self.now.library parts.now }
     {
-        match parts {
-            [router, part, name] => {
-                if part.as_str() == "acl" {
-                    list_of(self.library.as_slice(), router.as_str(), name.as_str())
-                } else {
-                    None
-                }
-            }
-            _ => None,
-        }
+        list_at_path(self.library.as_slice(), parts)
     }
 
     /// Why the names of policies in an EXPLORE are refused.
@@ -125,7 +120,8 @@ impl State {
     pub fn ask(&mut self, place: Place, verdict: Verdict, tests: Vec<Test>)
         requires place { IsPlace self.old.library place }
         requires packet { AllByRecursion IsOfPacket tests.items }
-        ensures { (list : AccessList) → list_at self.old.library place ≡ Some list → self.new ≡ asking self.old (asked list.entries verdict tests.items) }
+        ensures { (list : AccessList) → list_at self.old.library place ≡ Some list
+            → self.new ≡ asking self.old (asked list.entries verdict tests.items) }
     {
         self.kept = Some(Kept {
             place,
@@ -136,7 +132,9 @@ impl State {
 
     /// The question of the last EXPLORE.
     pub fn question(&self) -> Option<Question<'_>>
-        ensures kept { option_map (λ question. asked question.entries.now question.verdict question.tests.now) result ≡ self.now.question }
+        ensures kept { option_map
+            (λ question. asked question.entries.now question.verdict question.tests.now) result
+            ≡ self.now.question }
         ensures packet { IfSome result (λ question. AllByRecursion IsOfPacket question.tests.now) }
     {
         match &self.kept {

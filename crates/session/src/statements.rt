@@ -23,7 +23,8 @@ pub fn carry_out_all<F: Files, S: Sink>(
     out: &mut S,
 ) -> Cause
     requires { is_ordered false statements.now ≡ true }
-    ensures { Performs (AreCarriedOut IsCutShort script.now (F.holds files.old) no_routers statements.now)
+    ensures { Performs
+        (AreCarriedOut IsCutShort script.now (F.holds files.old) no_routers statements.now)
         (F.log files.old) (F.log files.new) (S.log out.old) (S.log out.new) result }
 {
     let mut state = State::new(alloc);
@@ -53,7 +54,8 @@ fn carry_out<F: Files, S: Sink>(
     requires { (not (is_show what.now) || is_some state.old.question) ≡ true }
     ensures carried { OnOk result (IsCarriedOut (F.holds files.old) state.old what.now state.new
         (F.log files.old) (F.log files.new) (S.log out.old) (S.log out.new)) }
-    ensures stopped { IfErr result (Performs (EndsAt IsCutShort at.now.script.now (F.holds files.old) at.now.number state.old what.now)
+    ensures stopped { IfErr result (Performs
+        (EndsAt IsCutShort at.now.script.now (F.holds files.old) at.now.number state.old what.now)
         (F.log files.old) (F.log files.new) (S.log out.old) (S.log out.new)) }
     ensures same { (other : List ℕ) → F.holds files.new other ≡ F.holds files.old other }
 {

@@ -59,7 +59,8 @@ fn push_values(
     packet: &Packet,
     fields: &[Field],
 ) -> Result<(), NoMemory>
-    ensures { IfOk result (λ _. string_bytes text.new ≡ string_bytes text.old ++ flat_map (value_line (request_of packet.now)) fields.now) }
+    ensures { IfOk result (λ _. string_bytes text.new
+        ≡ string_bytes text.old ++ flat_map (value_line (request_of packet.now)) fields.now) }
 {
     for field in fields {
         let line = value_text(alloc, packet, *field)?;
@@ -87,7 +88,8 @@ fn push_tests(
     packet: &Packet,
     tests: &[Test],
 ) -> Result<(), NoMemory>
-    ensures { IfOk result (λ _. string_bytes text.new ≡ string_bytes text.old ++ flat_map (test_line (request_of packet.now)) tests.now) }
+    ensures { IfOk result (λ _. string_bytes text.new
+        ≡ string_bytes text.old ++ flat_map (test_line (request_of packet.now)) tests.now) }
 {
     for test in tests {
         let line = test_text(alloc, packet, test)?;

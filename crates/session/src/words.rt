@@ -15,7 +15,8 @@ pub fn behind_name(words: &[String]) -> &[String]
 /// The script that the words of the command line name: one word that does not begin with a dash, but may be a dash.
 pub fn script_of(words: &[String]) -> Option<&str>
     ensures form { IfSome result (λ script. IsForm (map string_bytes words.now) script.now) }
-    ensures none { IfNone result ((script : List ℕ) → IsForm (map string_bytes words.now) script → ⊥) }
+    ensures none { IfNone result
+        ((script : List ℕ) → IsForm (map string_bytes words.now) script → ⊥) }
 {
     let [word] = words else {
         return None;

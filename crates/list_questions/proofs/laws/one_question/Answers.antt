@@ -2,4 +2,4 @@ use Rattle.list_questions.proofs.QuestionShapes as shapes
 use Rattle.list_questions.proofs.laws.one_question.Goals as goal
 
 pub returns : goal.returns
-returns c = λ question other is was. shapes.one_question _ question other is.asks was.asks
+returns c = λ explore question other is was. shapes.one_question explore.formula question other is.asks was.asks

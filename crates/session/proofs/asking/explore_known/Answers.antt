@@ -1,7 +1,6 @@
-use Rattle.std.proofs.Common.{[], map, sym, ◌∙◌}
+use Rattle.std.proofs.Common.{[], sym, ◌∙◌}
 use Rattle.mg_outside.proofs.EffectLaws.{has_read_nothing, has_written_nothing}
 use Rattle.query_lang.specs.declared.script.Kind.TheVariants as kind
-use Rattle.list_questions.specs.Ranges.{test_of}
 use Rattle.session.specs.declared.ended.Reason.TheVariants as reason
 use Rattle.session.specs.Steps.{explores, no_question, past, refused}
 use Rattle.session.proofs.Ends.{stops_here, wants_here}

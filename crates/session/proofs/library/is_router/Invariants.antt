@@ -1,5 +1,5 @@
 use Rattle.std.proofs.Common.{◌≡◌, drop}
-use Rattle.session.specs.Policies.{is_router}
+use Rattle.session.specs.Library.{is_router}
 use Rattle.session.proofs.library.is_router.Given as goal
 
 -- the name is none of those so far

@@ -1,7 +1,6 @@
 use Rattle.std.proofs.Common.{[], ◌∷◌, ◌∙◌, Err, sym, ap}
 use Rattle.std.proofs.lemmas.Result.{IfErr-weaker}
 use Rattle.mg_outside.proofs.EffectLaws.{has_read_nothing, has_written_nothing}
-use Rattle.session.specs.declared.ended.Cause.TheVariants as cause
 use Rattle.session.specs.declared.ended.Reason.TheVariants as reason
 use Rattle.session.specs.Endings.{router_line}
 use Rattle.session.specs.Run.{EndsAt, IsCutShort, effects, stops, wants}

@@ -1,4 +1,4 @@
-use Rattle.std.proofs.Common.{[], None, refl}
+use Rattle.std.proofs.Common.{[], None}
 use Rattle.mg_outside.proofs.EffectLaws.{has_read_nothing}
 use Rattle.session.specs.Run.{IsCutShort, bad_words, effects, form}
 use Rattle.session.specs.RunLines.{usage}

@@ -1,0 +1,9 @@
+pub mod Sequences
+pub mod AddressLines
+pub mod GroupLines
+pub mod LineFaults
+pub mod JoinedWords
+pub mod LineOpenings
+pub mod OneOpening
+pub mod OneReading
+pub mod OneLine

@@ -1,0 +1,13 @@
+pub mod Index
+pub mod PoolNames
+pub mod Sequences
+pub mod NoKind
+pub mod OptionWords
+pub mod StaticLines
+pub mod PoolWords
+pub mod PoolLines
+pub mod DynamicLines
+pub mod LineFaults
+pub mod OneEntry
+pub mod OneReading
+pub mod SomeReading

@@ -1,0 +1,9 @@
+pub mod Sides
+pub mod Table
+pub mod Translation
+pub mod Grammar
+pub mod Refusal
+pub mod Reading
+pub mod Faults
+pub mod Parts
+pub mod Index

@@ -1,0 +1,12 @@
+pub mod BestRanks
+pub mod FirstEntries
+pub mod ExitTables
+pub mod TowardsHops
+pub mod StaticRoutes
+pub mod RouteOptions
+pub mod RouteDistances
+pub mod RouteExitWords
+pub mod RouteMasks
+pub mod RouteReasons
+pub mod OneRoute
+pub mod OneRefusal

@@ -1,0 +1,9 @@
+use Rattle.std.proofs.Common.{List}
+use Rattle.ios_route.specs.declared.interface.Interface.{Interface}
+use Rattle.ios_route.specs.ActiveRoutes.{connected}
+use Rattle.ios_route.specs.Exits.{AreExits}
+use Rattle.ios_route.proofs.TowardsHops.{AreSearched}
+use Rattle.ios_route.proofs.exits.Exits.towards.Given as goal
+
+abbrev pub invariant-loop-zeros : goal.invariant-loop-zeros
+invariant-loop-zeros l = (interfaces : List Interface) → AreExits interfaces l.self → AreSearched l.hop l.zeros (connected interfaces)

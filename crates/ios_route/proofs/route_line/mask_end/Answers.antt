@@ -1,0 +1,31 @@
+use Rattle.std.proofs.lemmas.List.{nil_from_length}
+use Rattle.std.proofs.lemmas.Result.{err_from_is_err_and}
+use Rattle.ios_lex.specs.Address.{IsAddress}
+use Rattle.ios_route.proofs.RouteMasks.{mask_short_stop, mask_word_stop, mask_stop, mask_behind_stop}
+use Rattle.ios_route.proofs.route_line.mask_end.Goals as goal
+
+pub returns-in_default-clause-stop : goal.returns-in_default-clause-stop
+returns-in_default-clause-stop c =
+    mask_short_stop c.args.prefix c.args.words.now c.stop_before.result c.stop_before.ensures.left c.stop_before.ensures.due
+    (nil_from_length c.args.words.now c.in_default.ensures.cases)
+
+pub returns-in_default-address-clause-stop : goal.returns-in_default-address-clause-stop
+returns-in_default-address-clause-stop c =
+    let stop = c.stop_before-in_default-address in
+    mask_word_stop c.args.prefix c.args.words.now c.in-Some.rest.now c.in-Some.first.now stop.result stop.ensures.left stop.ensures.due c.in-Some.ensures.cases.0
+    (rw c.bytes.ensures at c.in_default-address.ensures.none)
+
+pub returns-in_default-mask_len-clause-stop : goal.returns-in_default-mask_len-clause-stop
+returns-in_default-mask_len-clause-stop c =
+    let address : IsAddress c.in-Some.first.now c.in-Some-address.mask = rw c.bytes.ensures at c.in-Some-address.ensures.found in
+    let stop = c.stop_before-in_default-mask_len in
+    mask_stop c.args.prefix c.in-Some-address.mask c.args.words.now c.in-Some.rest.now c.in-Some.first.now stop.result stop.ensures.left stop.ensures.due c.in-Some.ensures.cases.0
+    address c.in_default-mask_len.ensures.none
+
+pub returns-in_err-exit-clause-stop : goal.returns-in_err-exit-clause-stop
+returns-in_err-exit-clause-stop c =
+    let address : IsAddress c.in-Some.first.now c.in-Some-address.mask = rw c.bytes.ensures at c.in-Some-address.ensures.found in
+    let p = err_from_is_err_and c.from_residual.result c.from_residual.ensures.1 in
+    rw (p.1, p.2)
+    (mask_behind_stop c.args.prefix c.in-Some-mask_len.len c.in-Some-address.mask c.args.words.now c.in-Some.rest.now c.in-Some.first.now c.in_err-exit.field-0.0
+    c.in-Some.ensures.cases.0 address c.in-Some-mask_len.ensures.found c.in_err-exit.ensures.stop)

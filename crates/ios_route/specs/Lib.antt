@@ -1,0 +1,9 @@
+pub mod Networks
+pub mod Best
+pub mod ActiveRoutes
+pub mod Faults
+pub mod Ranks
+pub mod Exits
+pub mod RouteLines
+pub mod RouteRefusals
+pub mod RouteParts

@@ -1,0 +1,30 @@
+use crate::table::push_bytes;
+use ios_lex::IosReason;
+use std::test::Fail;
+
+/// Writes why a line is refused, and of a word that is not modelled the word.
+pub(crate) fn push_reason(text: &mut String, reason: &IosReason) -> Result<(), Fail> {
+    if let IosReason::Unmodelled(word) = reason {
+        text.push_str("unmodelled ")?;
+        push_bytes(text, word.bytes())
+    } else {
+        text.push_str(name_of(reason))?;
+        Ok(())
+    }
+}
+
+fn name_of(reason: &IosReason) -> &str {
+    match reason {
+        IosReason::BadAddress => "bad address",
+        IosReason::BadNumber => "bad number",
+        IosReason::UnknownName => "unknown name",
+        IosReason::BadMask => "bad mask",
+        IosReason::WrongKind => "wrong kind",
+        IosReason::DuplicateSequence => "duplicate sequence",
+        IosReason::DuplicateStatic => "duplicate static",
+        IosReason::DuplicatePool => "duplicate pool",
+        IosReason::BadEntry => "bad entry",
+        IosReason::TooMany => "too many",
+        _ => "another reason",
+    }
+}
