@@ -5,8 +5,9 @@ use Rattle.std.proofs.lemmas.List.{length_push, get_or_append_left, get_or_push,
 use Rattle.std.proofs.lemmas.Bool.{cases_lt}
 use Rattle.std.proofs.lemmas.List.Sums.{fold-append, sum_by-append}
 use Rattle.circuit.specs.declared.gate.Gate.{Gate}
+use Rattle.circuit.specs.Gates.{with_input}
 use Rattle.circuit.specs.Value.{value_at, gate_value, values, value, is_input, input_count, AreNodes, Extends, IsCircuit, IsNext}
-use Rattle.circuit.proofs.Below.{below-weaker}
+use Rattle.circuit.proofs.Below.{below-weaker, below_push}
 
 abbrev step : List Bool → List Bool → Gate → List Bool
 step inputs so_far g = so_far ++ gate_value inputs so_far g ∷ []
@@ -66,6 +67,12 @@ Extends-trans first second third p q = record {
 -- nodes of the old circuit are nodes of the new one, worth the same
 pub AreNodes-extends : (old new : List Gate) → Extends old new → (nodes : List ℕ) → AreNodes old nodes → AreNodes new nodes
 AreNodes-extends old new e nodes h = below-weaker (length old) (length new) nodes e.longer h
+
+-- and so are they with the next input behind them
+pub AreNodes-input : (old new : List Gate) (nodes : List ℕ) (node : ℕ) → new ≡ with_input old → node ≡ length old → Extends old new → AreNodes old nodes → AreNodes new (nodes ++ node ∷ [])
+AreNodes-input old new nodes node is next e h =
+    let longer : length new ≡ length old + 1 = ap length is ∙ length_push old _ in
+    below_push (length new) nodes node (omega (arith, longer, next)) (AreNodes-extends old new e nodes h)
 
 pub map-extends : (old new : List Gate) → Extends old new → (inputs : List Bool) (nodes : List ℕ) → AreNodes old nodes → map (value new inputs) nodes ≡ map (value old inputs) nodes
 map-extends old new e inputs [] h = refl

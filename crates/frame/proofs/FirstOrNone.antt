@@ -4,11 +4,11 @@ use Rattle.circuit.specs.Least.{LexLe}
 use Rattle.ios_config.specs.Request.{Request, fields}
 use Rattle.frame.specs.Question.{Question, passes}
 use Rattle.frame.specs.Scenario.{IsFirst, signature, visible}
-use Rattle.frame.specs.Solution.{Solves}
+use Rattle.frame.specs.Solution.{HasNoSolution, Solves}
 use Rattle.frame.proofs.Dictionary.{LexLe-digits, digit, least_list}
 
 -- first the least signature, then of the requests that have it the least values
-pub first_or_none : (question : Question) → ((request : Request) → IsFirst question request → ⊥) → (((request : Request) → Solves question request → ⊥) → ⊥) → ⊥
+pub first_or_none : (question : Question) → ((request : Request) → IsFirst question request → ⊥) → (HasNoSolution question → ⊥) → ⊥
 first_or_none question no_first some = some (λ request solves.
     least_list (λ r test. digit (passes r test)) (visible question.tests) (Solves question) request solves (λ one solved least.
     least_list (λ r f. r f) fields (λ r. Solves question r × (signature question r ≡ signature question one)) one (solved, refl) (λ first is least_of_these.

@@ -5,6 +5,7 @@ use Rattle.std.specs.Option.{option_or}
 use Rattle.std.proofs.lemmas.Bool.{false≢true}
 use Rattle.std.proofs.Math.Seq.{drop-cons}
 use Rattle.std.proofs.lemmas.List.Folds.{find-append, list_all_at}
+use Rattle.circuit.specs.declared.gate.Gate.{Gate}
 use Rattle.ios_acl.specs.declared.entry.Entry.{Entry}
 use Rattle.ios_acl.specs.declared.packet.Packet.{Packet}
 use Rattle.ios_acl.specs.Decision.{decision, verdict_by}
@@ -12,9 +13,8 @@ use Rattle.ios_acl.specs.Matching.{matches}
 use Rattle.ios_acl.specs.declared.entry.Verdict.{Verdict}
 use Rattle.ios_acl.specs.declared.entry.Verdict.TheVariants as verdict
 use Rattle.frame.specs.declared.question.Test.{Test}
-use Rattle.frame.specs.Meaning.{decides, is_permit}
-use Rattle.frame.specs.Question.{passes}
-use Rattle.frame.specs.Scenario.{request_of}
+use Rattle.frame.specs.Meaning.{Means, decides, is_permit, passes_all}
+use Rattle.frame.proofs.Nodes.{Means-as}
 use Rattle.frame.proofs.Scenarios.{answers}
 
 is_true : (b : Bool) → (b ≡ false → ⊥) → b ≡ true
@@ -48,14 +48,19 @@ missed_next front entries i d packet inside missed =
     sym (rw (drop-cons entries i d inside, ← (add-one i)) (without_missed front (get_or entries i d) (drop (i + 1) entries) packet missed))
 
 -- entries that decide the same of the packets that pass the tests answer a question alike
-pub same_answers : (kept entries : List Entry) (v : Verdict) (tests : List Test) → ((packet : Packet) → list_all (passes (request_of packet)) tests ≡ true → decision kept packet ≡ decision entries packet)
+pub same_answers : (kept entries : List Entry) (v : Verdict) (tests : List Test) → ((packet : Packet) → passes_all tests packet ≡ true → decision kept packet ≡ decision entries packet)
     → (packet : Packet) → answers kept v tests packet ≡ answers entries v tests packet
-same_answers kept entries v tests same packet = go (list_all (passes (request_of packet)) tests) refl
+same_answers kept entries v tests same packet = go (passes_all tests packet) refl
   where
     decides_same : (w : Verdict) → decision kept packet ≡ decision entries packet → decides kept w packet ≡ decides entries w packet
     decides_same verdict.Permit is = ap (λ d. is_permit d.0) is
     decides_same verdict.Deny is = ap (λ d. not (is_permit d.0)) is
 
-    go : (b : Bool) → list_all (passes (request_of packet)) tests ≡ b → (decides kept v packet && b) ≡ (decides entries v packet && b)
+    go : (b : Bool) → passes_all tests packet ≡ b → (decides kept v packet && b) ≡ (decides entries v packet && b)
     go true is = ap (λ d. d && true) (decides_same v (same packet is))
     go false is = and_false (decides kept v packet) ∙ sym (and_false (decides entries v packet))
+
+-- so a node that is true where the entries that were kept answer the question is true where all do
+pub means_same : (gates : List Gate) (node : ℕ) (kept entries : List Entry) (v : Verdict) (tests : List Test) → ((packet : Packet) → passes_all tests packet ≡ true → decision kept packet ≡ decision entries packet)
+    → Means gates node (answers kept v tests) → Means gates node (answers entries v tests)
+means_same gates node kept entries v tests same means = Means-as gates node (answers kept v tests) (answers entries v tests) (same_answers kept entries v tests same) means

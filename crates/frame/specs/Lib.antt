@@ -3,3 +3,4 @@ pub mod Solution
 pub mod Scenario
 pub mod Bits
 pub mod Meaning
+pub mod Relevance

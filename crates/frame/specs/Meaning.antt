@@ -9,7 +9,9 @@ use Rattle.ios_acl.specs.declared.entry.Verdict.TheVariants as verdict
 use Rattle.ios_acl.specs.declared.packet.Packet.{Packet}
 use Rattle.ios_acl.specs.Decision.{decision}
 use Rattle.ios_config.specs.Request.{IsRequest, packet_fields}
+use Rattle.frame.specs.declared.question.Test.{Test}
 use Rattle.frame.specs.Bits.{IsPacketOf}
+use Rattle.frame.specs.Question.{passes}
 use Rattle.frame.specs.Scenario.{IsNotBehind, request_of}
 
 -- the circuit has the bits of a packet as its inputs, in order
@@ -22,7 +24,8 @@ pub record HasBits (gates : List Gate) (bits : List ℕ) : Type 0 where
 -- the node is true for the packets that pass the test
 pub record Means (gates : List Gate) (node : ℕ) (meaning : Packet → Bool) : Type 0 where
   pub within : node < length gates
-  pub value : (inputs : List Bool) (packet : Packet) → IsPacketOf inputs packet → value gates inputs node ≡ meaning packet
+  pub value : (inputs : List Bool) (packet : Packet) → IsPacketOf inputs packet
+      → value gates inputs node ≡ meaning packet
 
 -- a circuit with more nodes, among them one that means the test
 pub record Adds (old new : List Gate) (node : ℕ) (meaning : Packet → Bool) : Type 0 where
@@ -32,12 +35,14 @@ pub record Adds (old new : List Gate) (node : ℕ) (meaning : Packet → Bool) :
 -- the nodes are all true for the packets that pass the test, and for no others
 pub record AllMean (gates : List Gate) (nodes : List ℕ) (meaning : Packet → Bool) : Type 0 where
   pub within : AreNodes gates nodes
-  pub value : (inputs : List Bool) (packet : Packet) → IsPacketOf inputs packet → list_all (value gates inputs) nodes ≡ meaning packet
+  pub value : (inputs : List Bool) (packet : Packet) → IsPacketOf inputs packet
+      → list_all (value gates inputs) nodes ≡ meaning packet
 
 -- a circuit with more nodes, and nodes of it that are all true where the ones before are and the packet passes the test
 pub record Narrows (old new : List Gate) (before after : List ℕ) (test : Packet → Bool) : Type 0 where
   pub older : Extends old new
-  pub parts : (meaning : Packet → Bool) → AllMean old before meaning → AllMean new after (λ packet. meaning packet && test packet)
+  pub parts : (meaning : Packet → Bool) → AllMean old before meaning
+      → AllMean new after (λ packet. meaning packet && test packet)
 
 -- a packet within the bounds of its fields that passes the test
 pub record HoldsFor (meaning : Packet → Bool) (packet : Packet) : Type 0 where
@@ -47,7 +52,8 @@ pub record HoldsFor (meaning : Packet → Bool) (packet : Packet) : Type 0 where
 -- the first of these packets in the order of their fields
 pub record IsLeastPacket (meaning : Packet → Bool) (packet : Packet) : Type 0 where
   pub holds : HoldsFor meaning packet
-  pub least : (other : Packet) → HoldsFor meaning other → IsNotBehind (map (request_of packet) packet_fields) (map (request_of other) packet_fields)
+  pub least : (other : Packet) → HoldsFor meaning other
+      → IsNotBehind (map (request_of packet) packet_fields) (map (request_of other) packet_fields)
 
 abbrev pub is_permit : Verdict → Bool
 is_permit verdict.Permit = true
@@ -61,3 +67,7 @@ permits entries packet = is_permit (decision entries packet).0
 abbrev pub decides : List Entry → Verdict → Packet → Bool
 decides entries verdict.Permit packet = permits entries packet
 decides entries verdict.Deny packet = not (permits entries packet)
+
+-- whether the packet passes all of the tests
+abbrev pub passes_all : List Test → Packet → Bool
+passes_all tests packet = list_all (passes (request_of packet)) tests

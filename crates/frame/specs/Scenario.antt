@@ -42,8 +42,11 @@ IsNotBehind (x ∷ xs) (y ∷ ys) = (x < y) ⊎ ((x ≡ y) × IsNotBehind xs ys)
 
 pub record IsFirst (question : Question) (request : Request) : Type 0 where
   pub solves : Solves question request
-  pub least_signature : (other : Request) → Solves question other → LexLe (signature question request) (signature question other)
-  pub least_values : (other : Request) → Solves question other → signature question other ≡ signature question request → IsNotBehind (values request) (values other)
+  pub least_signature : (other : Request) → Solves question other
+      → LexLe (signature question request) (signature question other)
+  pub least_values : (other : Request) → Solves question other
+      → signature question other ≡ signature question request
+      → IsNotBehind (values request) (values other)
 
 -- the request of a packet whose other fields are 0
 abbrev pub request_of : Packet → Request

@@ -13,3 +13,7 @@ pub record Solves (question : Question) (request : Request) : Type 0 where
   pub comes_in : IsPacketIn request packet
   pub decided : (decision question.entries packet).0 ≡ question.verdict
   pub tests : list_all (passes request) question.tests ≡ true
+
+-- no request answers the question
+abbrev pub HasNoSolution : Question → Type 0
+HasNoSolution question = (request : Request) → Solves question request → ⊥

@@ -17,7 +17,8 @@ pub(crate) fn decided(
     entries: &[Entry],
     verdict: Verdict,
 ) -> Result<Node, NoMemory>
-    ensures { IfOk result (λ node. Adds circuit.old circuit.new node (decides entries.now verdict)) }
+    ensures { IfOk result (λ node.
+        Adds circuit.old circuit.new node (decides entries.now verdict)) }
 {
     let permitted = permitted(alloc, circuit, entries)?;
     match verdict {
@@ -52,7 +53,8 @@ fn decided_by(
 ) -> Result<Node, NoMemory>
     requires { other < length circuit.old }
     ensures { IfOk result (λ node. (meaning : Packet → Bool) → Means circuit.old other meaning
-        → Adds circuit.old circuit.new node (λ packet. if matches entry.now packet then is_permit entry.now.verdict else meaning packet)) }
+        → Adds circuit.old circuit.new node (λ packet.
+        if matches entry.now packet then is_permit entry.now.verdict else meaning packet)) }
 {
     let matched = matched(alloc, circuit, entry)?;
     match entry.verdict {

@@ -4,17 +4,19 @@ ghost use Rattle.ios_config.specs.Request.{Request};
 ghost use Rattle.frame.specs.Question.{Question};
 ghost use Rattle.frame.specs.Scenario.{IsFirst, same_test, visible};
 ghost use Rattle.frame.specs.declared.question.Test.{Test};
-ghost use Rattle.frame.specs.Solution.{Solves};
+ghost use Rattle.frame.specs.Solution.{HasNoSolution};
 
 /// A question has a first request or none that solves it: there is no question that has neither.
 pub fn first_or_none()
-    ensures { (question : Question) → ((request : Request) → IsFirst question request → ⊥) → (((request : Request) → Solves question request → ⊥) → ⊥) → ⊥ }
+    ensures { (question : Question) → ((request : Request) → IsFirst question request → ⊥)
+        → (HasNoSolution question → ⊥) → ⊥ }
 {}
 
 /// A question has one first request at most. A request is the function of its fields, so that two with the same values
 /// are the same one.
 pub fn one_first()
-    ensures { (question : Question) (request other : Request) → IsFirst question request → IsFirst question other → request ≡ other }
+    ensures { (question : Question) (request other : Request) → IsFirst question request
+        → IsFirst question other → request ≡ other }
 {}
 
 /// `visible`, read from the front: a test that is shown already is left out, and any other stands behind those before
@@ -22,5 +24,7 @@ pub fn one_first()
 pub fn shown_once()
     ensures same { (a b : Test) → (same_test a b ≡ true) ↔ (a ≡ b) }
     ensures first { visible [] ≡ [] }
-    ensures next { (tests : List Test) (test : Test) → visible (tests ++ test ∷ []) ≡ (if list_any (λ shown. same_test shown test) (visible tests) then visible tests else visible tests ++ test ∷ []) }
+    ensures next { (tests : List Test) (test : Test) → visible (tests ++ test ∷ []) ≡
+        (if list_any (λ shown. same_test shown test) (visible tests)
+        then visible tests else visible tests ++ test ∷ []) }
 {}

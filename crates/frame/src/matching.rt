@@ -40,7 +40,8 @@ fn narrow_to_number(
     field: Field,
     wanted: Option<u8>,
 ) -> Result<(), NoMemory>
-    ensures { OnOk result (Narrows circuit.old circuit.new parts.old.items parts.new.items (λ packet. matches_code (request_of packet field) wanted)) }
+    ensures { OnOk result (Narrows circuit.old circuit.new parts.old.items parts.new.items
+        (λ packet. matches_code (request_of packet field) wanted)) }
 {
     match wanted {
         None => Ok(()),
@@ -59,7 +60,8 @@ fn narrow_to_place(
     address: u32,
     wildcard: u32,
 ) -> Result<(), NoMemory>
-    ensures { OnOk result (Narrows circuit.old circuit.new parts.old.items parts.new.items (λ packet. agrees (request_of packet field) address wildcard)) }
+    ensures { OnOk result (Narrows circuit.old circuit.new parts.old.items parts.new.items
+        (λ packet. agrees (request_of packet field) address wildcard)) }
 {
     if wildcard == u32::MAX {
         return Ok(());
@@ -75,7 +77,8 @@ fn narrow_to_ports(
     field: Field,
     ports: Ports,
 ) -> Result<(), NoMemory>
-    ensures { OnOk result (Narrows circuit.old circuit.new parts.old.items parts.new.items (λ packet. matches_port (request_of packet field) ports)) }
+    ensures { OnOk result (Narrows circuit.old circuit.new parts.old.items parts.new.items
+        (λ packet. matches_port (request_of packet field) ports)) }
 {
     match ports {
         Ports::Any => Ok(()),
@@ -102,7 +105,8 @@ fn narrow_to_message(
     parts: &mut Vec<Node>,
     wanted: Option<(u8, Option<u8>)>,
 ) -> Result<(), NoMemory>
-    ensures { OnOk result (Narrows circuit.old circuit.new parts.old.items parts.new.items (λ packet. matches_icmp packet.icmp_type packet.icmp_code wanted)) }
+    ensures { OnOk result (Narrows circuit.old circuit.new parts.old.items parts.new.items
+        (λ packet. matches_icmp packet.icmp_type packet.icmp_code wanted)) }
 {
     match wanted {
         None => Ok(()),
@@ -119,7 +123,8 @@ fn narrow_to_established(
     parts: &mut Vec<Node>,
     wanted: bool,
 ) -> Result<(), NoMemory>
-    ensures { OnOk result (Narrows circuit.old circuit.new parts.old.items parts.new.items (λ packet. matches_established packet.flags wanted)) }
+    ensures { OnOk result (Narrows circuit.old circuit.new parts.old.items parts.new.items
+        (λ packet. matches_established packet.flags wanted)) }
 {
     if !wanted {
         return Ok(());

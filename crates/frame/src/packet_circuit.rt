@@ -51,7 +51,8 @@ impl PacketCircuit {
         value: u32,
         wildcard: u32,
     ) -> Result<Node, NoMemory>
-        ensures { IfOk result (λ node. Adds self.old self.new node (λ packet. agrees (request_of packet field) value wildcard)) }
+        ensures { IfOk result (λ node. Adds self.old self.new node
+            (λ packet. agrees (request_of packet field) value wildcard)) }
     {
         let bits = field_bits(self.bits.as_slice(), field);
         self.circuit
@@ -61,7 +62,8 @@ impl PacketCircuit {
     /// Adds a node that is true where the field is from `low` to `high`, both included. A single number takes fewer
     /// gates.
     pub(crate) fn within(&mut self, field: Field, low: u32, high: u32) -> Result<Node, NoMemory>
-        ensures { IfOk result (λ node. Adds self.old self.new node (λ packet. within low high (request_of packet field))) }
+        ensures { IfOk result (λ node. Adds self.old self.new node
+            (λ packet. within low high (request_of packet field))) }
     {
         if low == high {
             return self.masked(field, low, 0);
@@ -70,7 +72,8 @@ impl PacketCircuit {
     }
 
     fn range(&mut self, field: Field, low: u32, high: u32) -> Result<Node, NoMemory>
-        ensures { IfOk result (λ node. Adds self.old self.new node (λ packet. within low high (request_of packet field))) }
+        ensures { IfOk result (λ node. Adds self.old self.new node
+            (λ packet. within low high (request_of packet field))) }
     {
         let bits = field_bits(self.bits.as_slice(), field);
         self.circuit.range(bits, u128::from(low), u128::from(high))
@@ -81,7 +84,8 @@ impl PacketCircuit {
         requires { AreNodes self.old parts.now }
         ensures node { IfOk result (λ node. node < length self.new) }
         ensures older { Extends self.old self.new }
-        ensures value { IfOk result (λ node. (inputs : List Bool) → node_value self.new inputs node ≡ list_all (node_value self.old inputs) parts.now) }
+        ensures value { IfOk result (λ node. (inputs : List Bool) →
+            node_value self.new inputs node ≡ list_all (node_value self.old inputs) parts.now) }
     {
         self.circuit.and(parts)
     }
@@ -91,7 +95,8 @@ impl PacketCircuit {
         requires { AreNodes self.old parts.now }
         ensures node { IfOk result (λ node. node < length self.new) }
         ensures older { Extends self.old self.new }
-        ensures value { IfOk result (λ node. (inputs : List Bool) → node_value self.new inputs node ≡ list_any (node_value self.old inputs) parts.now) }
+        ensures value { IfOk result (λ node. (inputs : List Bool) →
+            node_value self.new inputs node ≡ list_any (node_value self.old inputs) parts.now) }
     {
         self.circuit.or(parts)
     }
@@ -101,7 +106,8 @@ impl PacketCircuit {
         requires { part < length self.old }
         ensures node { IfOk result (λ node. node < length self.new) }
         ensures older { Extends self.old self.new }
-        ensures value { IfOk result (λ node. (inputs : List Bool) → node_value self.new inputs node ≡ not (node_value self.old inputs part)) }
+        ensures value { IfOk result (λ node. (inputs : List Bool) →
+            node_value self.new inputs node ≡ not (node_value self.old inputs part)) }
     {
         self.circuit.not(part)
     }
@@ -109,8 +115,12 @@ impl PacketCircuit {
     /// The packet of the least bits that make the root true; none where no packet does.
     pub(crate) fn first(&self, alloc: Global, root: Node) -> Result<Option<Packet>, NoMemory>
         requires { root < length self.now }
-        ensures found { IfOk result (λ answer. IfSome answer (λ packet. (meaning : Packet → Bool) → Means self.now root meaning → IsLeastPacket meaning packet)) }
-        ensures none { IfOk result (λ answer. IfNone answer ((meaning : Packet → Bool) (packet : Packet) → Means self.now root meaning → HoldsFor meaning packet → ⊥)) }
+        ensures found { IfOk result (λ answer. IfSome answer (λ packet.
+            (meaning : Packet → Bool) → Means self.now root meaning
+            → IsLeastPacket meaning packet)) }
+        ensures none { IfOk result (λ answer. IfNone answer
+            ((meaning : Packet → Bool) (packet : Packet) →
+            Means self.now root meaning → HoldsFor meaning packet → ⊥)) }
     {
         match least(alloc, &self.circuit, root)? {
             Some(inputs) => Ok(Some(packet_of(inputs.as_slice()))),

@@ -1,10 +1,10 @@
 ghost use Rattle.std.specs.Prelude.{◌≡◌, ◌<◌, Bool, length, IfOk, IfSome, IfNone, ◌&&◌};
-ghost use Rattle.std.specs.List.{list_all, list_any, AllByRecursion};
+ghost use Rattle.std.specs.List.{list_any, AllByRecursion};
 ghost use Rattle.ios_acl.specs.declared.packet.Packet.{Packet};
-ghost use Rattle.ios_config.specs.Request.{Request, place};
-ghost use Rattle.frame.specs.Meaning.{Adds, Means};
+ghost use Rattle.ios_config.specs.Request.{place};
+ghost use Rattle.frame.specs.Meaning.{Adds, Means, passes_all};
 ghost use Rattle.frame.specs.Question.{IsOfPacket, accepts, asked, passes};
-ghost use Rattle.frame.specs.Solution.{Solves};
+ghost use Rattle.frame.specs.Solution.{HasNoSolution};
 ghost use Rattle.frame.specs.Scenario.{IsFirst, request_of, same_test};
 ghost use Rattle.frame.specs.Scenario as specs;
 
@@ -92,8 +92,10 @@ pub fn first_packet(
     tests: &[Test],
 ) -> Result<Option<Packet>, NoMemory>
     requires { AllByRecursion IsOfPacket tests.now }
-    ensures found { IfOk result (λ answer. IfSome answer (λ packet. IsFirst (asked entries.now verdict tests.now) (request_of packet))) }
-    ensures none { IfOk result (λ answer. IfNone answer ((request : Request) → Solves (asked entries.now verdict tests.now) request → ⊥)) }
+    ensures found { IfOk result (λ answer. IfSome answer (λ packet.
+        IsFirst (asked entries.now verdict tests.now) (request_of packet))) }
+    ensures none { IfOk result (λ answer. IfNone answer
+        (HasNoSolution (asked entries.now verdict tests.now))) }
 {
     let kept = relevant(alloc, entries, tests)?;
     let mut circuit = PacketCircuit::new(alloc)?;
@@ -106,7 +108,8 @@ pub fn first_packet(
 fn tested(circuit: &mut PacketCircuit, other: Node, tests: &[Test]) -> Result<Node, NoMemory>
     requires { other < length circuit.old }
     ensures { IfOk result (λ node. (meaning : Packet → Bool) → Means circuit.old other meaning
-        → Adds circuit.old circuit.new node (λ packet. meaning packet && list_all (passes (request_of packet)) tests.now)) }
+        → Adds circuit.old circuit.new node
+        (λ packet. meaning packet && passes_all tests.now packet)) }
 {
     let mut node = other;
     for test in tests {
@@ -118,7 +121,8 @@ fn tested(circuit: &mut PacketCircuit, other: Node, tests: &[Test]) -> Result<No
 
 /// Adds a node that is true where the packet passes the test.
 fn passed(circuit: &mut PacketCircuit, test: &Test) -> Result<Node, NoMemory>
-    ensures { IfOk result (λ node. Adds circuit.old circuit.new node (λ packet. passes (request_of packet) test.now)) }
+    ensures { IfOk result (λ node. Adds circuit.old circuit.new node
+        (λ packet. passes (request_of packet) test.now)) }
 {
     match test.pattern {
         Pattern::Masked { value, wildcard } => circuit.masked(test.field, value, wildcard),

@@ -1,10 +1,11 @@
-ghost use Rattle.std.specs.Prelude.{◌≡◌, ℕ, true, false, IfOk};
-ghost use Rattle.std.specs.List.{list_all};
+ghost use Rattle.std.specs.Prelude.{◌≡◌, ℕ, true, IfOk};
 ghost use Rattle.bit_patterns.specs.Patterns.{agrees as agrees_lem, within};
 ghost use Rattle.ios_acl.specs.declared.packet.Packet.{Packet as PacketOf};
 ghost use Rattle.ios_acl.specs.Decision.{decision};
 ghost use Rattle.ios_acl.specs.Matching.{matches, matches_code, matches_established, matches_icmp, matches_port};
+ghost use Rattle.frame.specs.Meaning.{passes_all};
 ghost use Rattle.frame.specs.Question.{accepts, passes};
+ghost use Rattle.frame.specs.Relevance.{Excludes};
 ghost use Rattle.frame.specs.Scenario.{request_of};
 
 use crate::NoMemory;
@@ -21,7 +22,8 @@ pub(crate) fn relevant(
     entries: &[Entry],
     tests: &[Test],
 ) -> Result<Vec<Entry>, NoMemory>
-    ensures { IfOk result (λ kept. (packet : PacketOf) → list_all (passes (request_of packet)) tests.now ≡ true → decision kept.items packet ≡ decision entries.now packet) }
+    ensures { IfOk result (λ kept. (packet : PacketOf) → passes_all tests.now packet ≡ true
+        → decision kept.items packet ≡ decision entries.now packet) }
 {
     let mut kept = Vec::new(alloc);
     for entry in entries {
@@ -34,7 +36,7 @@ pub(crate) fn relevant(
 
 /// Whether one of the tests shows that the entry matches no packet which passes them.
 fn is_missed(entry: &Entry, tests: &[Test]) -> bool
-    ensures { result ≡ true → (packet : PacketOf) → list_all (passes (request_of packet)) tests.now ≡ true → matches entry.now packet ≡ false }
+    ensures { result ≡ true → Excludes (passes_all tests.now) (matches entry.now) }
 {
     for test in tests {
         if misses(entry, test) {
@@ -46,7 +48,8 @@ fn is_missed(entry: &Entry, tests: &[Test]) -> bool
 
 /// Whether the entry and the test ask for different values of the test's field.
 fn misses(entry: &Entry, test: &Test) -> bool
-    ensures { result ≡ true → (packet : PacketOf) → passes (request_of packet) test.now ≡ true → matches entry.now packet ≡ false }
+    ensures { result ≡ true → Excludes (λ packet. passes (request_of packet) test.now)
+        (matches entry.now) }
 {
     match test.field {
         Field::SrcIn => are_apart(entry.src, test.pattern),
@@ -62,7 +65,7 @@ fn misses(entry: &Entry, test: &Test) -> bool
 
 /// Whether no number is as the pattern asks and agrees with the place.
 fn are_apart(place: (u32, u32), pattern: Pattern) -> bool
-    ensures { result ≡ true → (x : ℕ) → accepts pattern x ≡ true → agrees_lem x place.0 place.1 ≡ false }
+    ensures { result ≡ true → Excludes (accepts pattern) (λ x. agrees_lem x place.0 place.1) }
 {
     match pattern {
         Pattern::Masked { value, wildcard } => differ(place, value, wildcard),
@@ -73,7 +76,8 @@ fn are_apart(place: (u32, u32), pattern: Pattern) -> bool
 
 /// Whether no number agrees with both values, each on the bits that are 0 in its wildcard.
 fn differ(place: (u32, u32), value: u32, wildcard: u32) -> bool
-    ensures { result ≡ true → (x : ℕ) → agrees_lem x value wildcard ≡ true → agrees_lem x place.0 place.1 ≡ false }
+    ensures { result ≡ true → Excludes (λ x. agrees_lem x value wildcard)
+        (λ x. agrees_lem x place.0 place.1) }
 {
     let ignored = place.1 | wildcard;
     !agrees(u128::from(place.0), u128::from(value), u128::from(ignored))
@@ -81,7 +85,7 @@ fn differ(place: (u32, u32), value: u32, wildcard: u32) -> bool
 
 /// Whether the least and the greatest number that agree with the place are both on one side of the range.
 fn is_outside(place: (u32, u32), low: u32, high: u32) -> bool
-    ensures { result ≡ true → (x : ℕ) → within low high x ≡ true → agrees_lem x place.0 place.1 ≡ false }
+    ensures { result ≡ true → Excludes (within low high) (λ x. agrees_lem x place.0 place.1) }
 {
     let greatest = place.0 | place.1;
     let least = greatest - place.1;
@@ -90,7 +94,7 @@ fn is_outside(place: (u32, u32), low: u32, high: u32) -> bool
 
 /// Whether a range is asked for that has none of these ports. A wildcard is not looked into.
 fn is_other_port(ports: Ports, pattern: Pattern) -> bool
-    ensures { result ≡ true → (x : ℕ) → accepts pattern x ≡ true → matches_port x ports ≡ false }
+    ensures { result ≡ true → Excludes (accepts pattern) (λ x. matches_port x ports) }
 {
     match (ports, pattern) {
         (Ports::Within(first, last), Pattern::Range { low, high }) => {
@@ -106,7 +110,7 @@ fn is_other_port(ports: Ports, pattern: Pattern) -> bool
 
 /// Whether a number is wanted that is not as the pattern asks.
 fn is_other_code(wanted: Option<u8>, pattern: Pattern) -> bool
-    ensures { result ≡ true → (x : ℕ) → accepts pattern x ≡ true → matches_code x wanted ≡ false }
+    ensures { result ≡ true → Excludes (accepts pattern) (λ x. matches_code x wanted) }
 {
     match wanted {
         None => false,
@@ -116,7 +120,8 @@ fn is_other_code(wanted: Option<u8>, pattern: Pattern) -> bool
 
 /// Whether an ICMP type is wanted that is not as the pattern asks.
 fn is_other_type(wanted: Option<(u8, Option<u8>)>, pattern: Pattern) -> bool
-    ensures { result ≡ true → (x code : ℕ) → accepts pattern x ≡ true → matches_icmp x code wanted ≡ false }
+    ensures { result ≡ true → (code : ℕ) →
+        Excludes (accepts pattern) (λ x. matches_icmp x code wanted) }
 {
     match wanted {
         None => false,
@@ -126,7 +131,7 @@ fn is_other_type(wanted: Option<(u8, Option<u8>)>, pattern: Pattern) -> bool
 
 /// Whether one of ACK, 16, and RST, 4, is wanted, and a single number is asked for that has neither.
 fn lacks_flags(wanted: bool, pattern: Pattern) -> bool
-    ensures { result ≡ true → (x : ℕ) → accepts pattern x ≡ true → matches_established x wanted ≡ false }
+    ensures { result ≡ true → Excludes (accepts pattern) (λ x. matches_established x wanted) }
 {
     match pattern {
         Pattern::Masked { .. } => false,

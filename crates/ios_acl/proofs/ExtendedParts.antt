@@ -2,7 +2,7 @@
 use Rattle.std.proofs.Common.{◌≡◌, ◌⊎◌, inl, inr, ◌↔◌, ℕ, Bool, true, false, List, [], ◌∷◌, ◌++◌, Option, None, codes, refl, sym}
 use Rattle.ios_lex.specs.Phrases.{Words, Then}
 use Rattle.ios_lex.specs.Refusal.{begins_with_digit, is_among}
-use Rattle.ios_lex.proofs.Chains.{cut_behind, then_behind, then_map}
+use Rattle.ios_lex.proofs.Chains.{cut_behind, then_map}
 use Rattle.ios_lex.proofs.Stopping.{IsOptionalPart}
 use Rattle.ios_lex.proofs.WordForms.{address_digit}
 use Rattle.ios_acl.specs.declared.entry.Entry.{Entry}
@@ -13,7 +13,7 @@ use Rattle.ios_acl.specs.Grammar.{IsPlace, IsProto, ArePorts, ArePortsOf, AreMes
 use Rattle.ios_acl.specs.Parts.{port_words, SomeEnd, SomeExtended, SomePlace, SomePortsOf}
 use Rattle.ios_acl.proofs.OnePart.{proto_is_one, ports_begin, ports_word, ports_word_among, ports_word_letter}
 use Rattle.ios_acl.proofs.PortWords.{more_ports}
-use Rattle.ios_acl.proofs.PrefixFree.{place_prefix_free, ports_of_prefix_free}
+use Rattle.ios_acl.proofs.PrefixFree.{ports_of_prefix_free}
 
 -- what may stand behind the ports of the source, behind the source, and behind the protocol
 abbrev pub BehindPorts : Option ℕ → Bool → Words → Type 0
@@ -110,12 +110,6 @@ behind_proto proto part is b x = (forth, back)
             };
           },
         )
-
-pub behind_source : (proto : Option ℕ) (part : Words) (place : ℕ × ℕ) → IsPlace place part → (b : Bool) (x : Words) → BehindProto proto b (part ++ x) ↔ BehindSource proto b x
-behind_source proto part place is b x = then_behind (SomePlace b) (BehindSource proto b) part x (place_prefix_free b) (place, is)
-
-pub behind_destination : (proto : Option ℕ) (part : Words) (place : ℕ × ℕ) → IsPlace place part → (b : Bool) (x : Words) → BehindPorts proto b (part ++ x) ↔ SomeEnd proto b x
-behind_destination proto part place is b x = then_behind (SomePlace b) (SomeEnd proto b) part x (place_prefix_free b) (place, is)
 
 -- a test is one where ranges may be backward
 pub ports_loosened : (proto : Option ℕ) (b : Bool) (words : Words) → SomePortsOf proto false words → SomePortsOf proto b words

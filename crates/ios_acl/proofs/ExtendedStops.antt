@@ -5,11 +5,11 @@ use Rattle.std.proofs.lemmas.List.Elements.{All-contains}
 use Rattle.std.proofs.lemmas.List.Sums.{AllPass-from_list_all}
 use Rattle.ios_lex.specs.Names.{icmp_messages, IsMessageName}
 use Rattle.ios_lex.specs.declared.stop.Stop.{Stop}
-use Rattle.ios_lex.specs.Phrases.{Words}
+use Rattle.ios_lex.specs.Phrases.{Words, Then}
 use Rattle.ios_lex.specs.Following.{Begins, IsAddressWord, IsNumberWord}
 use Rattle.ios_lex.specs.Refusal.{is_among}
 use Rattle.ios_lex.specs.Stops.{BeginsWith, expected_of, LacksFirst}
-use Rattle.ios_lex.proofs.Chains.{then_first}
+use Rattle.ios_lex.proofs.LineParts.{IsPart, stop_behind_first, stop_in_first}
 use Rattle.ios_lex.proofs.Stopping.{IsFirstPart, stop_behind, stop_within, stop_within_optional, stop_without}
 use Rattle.ios_lex.proofs.WordForms.{address_digit, numeral_digit}
 use Rattle.ios_acl.specs.declared.entry.Entry.{Entry}
@@ -17,8 +17,8 @@ use Rattle.ios_acl.specs.declared.entry.Ports.{Ports}
 use Rattle.ios_acl.specs.declared.entry.Ports.TheVariants as ports
 use Rattle.ios_acl.specs.Grammar.{IsPlace, IsProto, ArePorts, ArePortsOf, IsExtended, with_ports}
 use Rattle.ios_acl.specs.Stops.{IsStop}
-use Rattle.ios_acl.specs.Parts.{IsEnd, port_words, SomeEnd, SomeExtended, SomePlace, SomePorts, SomePortsOf, SomeProto}
-use Rattle.ios_acl.proofs.ExtendedParts.{BehindPorts, BehindProto, BehindSource, behind_destination, behind_ports, behind_proto, behind_source, optional_ports, ports_loosened, some_behind_proto, some_behind_source, some_end, test_begins}
+use Rattle.ios_acl.specs.Parts.{IsEnd, port_words, SomeExtended, SomePlace, SomePorts, SomePortsOf, SomeProto}
+use Rattle.ios_acl.proofs.ExtendedParts.{BehindPorts, BehindProto, BehindSource, behind_ports, behind_proto, optional_ports, ports_loosened, some_behind_proto, test_begins}
 use Rattle.ios_acl.proofs.OneEnd.{tcp_is_one}
 use Rattle.ios_acl.proofs.OnePart.{ports_begin}
 use Rattle.ios_acl.proofs.PrefixFree.{place_prefix_free, ports_of_prefix_free, proto_prefix_free}
@@ -55,15 +55,17 @@ pub stop_behind_proto : (proto : Option ℕ) (words rest : Words) (stop : Stop) 
 stop_behind_proto proto words rest stop read stops =
     stop_behind SomeExtended (BehindProto proto) words read.0 rest stop read.1 (behind_proto proto read.0 read.2) stops
 
--- the source, and what stands behind it
-pub stop_in_source : (proto : Option ℕ) (words : Words) (stop : Stop) → (expected_of stop.due).whole ≡ false → IsStop SomePlace words stop → IsStop (BehindProto proto) words stop
-stop_in_source proto words stop part stops =
-    stop_within SomePlace (BehindProto proto) words stop (λ b. then_first (SomePlace b) (BehindSource proto b) (codes "any" ∷ []) (some_behind_source proto b)) place_prefix_free (λ x h. h) part stops
+-- the source or the destination, and what stands behind it
+place_part : IsPart SomePlace
+place_part = record { free = place_prefix_free; more = λ x is. is }
 
-pub stop_behind_source : (proto : Option ℕ) (place : ℕ × ℕ) (words rest : Words) (stop : Stop) → BeginsWith (IsPlace place) words rest
-    → IsStop (BehindSource proto) rest stop → IsStop (BehindProto proto) words stop
-stop_behind_source proto place words rest stop read stops =
-    stop_behind (BehindProto proto) (BehindSource proto) words read.0 rest stop read.1 (behind_source proto read.0 place read.2) stops
+pub stop_in_place : (Rest : Bool → Words → Type 0) (words some : Words) (stop : Stop) → ((b : Bool) → Rest b some) → (expected_of stop.due).whole ≡ false
+    → IsStop SomePlace words stop → IsStop (λ b. Then (SomePlace b) (Rest b)) words stop
+stop_in_place Rest words some stop is part stops = stop_in_first SomePlace Rest words some stop place_part is part stops
+
+pub stop_behind_place : (Rest : Bool → Words → Type 0) (place : ℕ × ℕ) (words rest : Words) (stop : Stop) → BeginsWith (IsPlace place) words rest
+    → IsStop Rest rest stop → IsStop (λ b. Then (SomePlace b) (Rest b)) words stop
+stop_behind_place Rest place words rest stop (front, whole, is) stops = stop_behind_first SomePlace Rest words rest stop place_part (front, whole, (place, is)) stops
 
 -- the ports of the source, and what stands behind them or where they are left out
 pub stop_in_ports : (proto : Option ℕ) (words : Words) (stop : Stop) → (expected_of stop.due).whole ≡ false → stop.left < length words
@@ -81,16 +83,6 @@ stop_behind_ports proto tested words rest stop read lacks stops = by read.2
         stop_without (SomePortsOf proto) (BehindPorts proto) (BehindSource proto) words stop (optional_ports proto) (ports_loosened proto true) (lacks (sym same)) (no_test_form proto) (rw same stops)
     by (ArePortsOf.test tcp is are) =
         stop_behind (BehindSource proto) (BehindPorts proto) words read.0 rest stop read.1 (behind_ports proto read.0 (tcp, is, (tested, are))) stops
-
--- the destination, and what stands behind it
-pub stop_in_destination : (proto : Option ℕ) (words : Words) (stop : Stop) → (expected_of stop.due).whole ≡ false → IsStop SomePlace words stop → IsStop (BehindPorts proto) words stop
-stop_in_destination proto words stop part stops =
-    stop_within SomePlace (BehindPorts proto) words stop (λ b. then_first (SomePlace b) (SomeEnd proto b) [] (some_end proto b)) place_prefix_free (λ x h. h) part stops
-
-pub stop_behind_destination : (proto : Option ℕ) (place : ℕ × ℕ) (words rest : Words) (stop : Stop) → BeginsWith (IsPlace place) words rest
-    → IsStop (SomeEnd proto) rest stop → IsStop (BehindPorts proto) words stop
-stop_behind_destination proto place words rest stop read stops =
-    stop_behind (BehindPorts proto) (SomeEnd proto) words read.0 rest stop read.1 (behind_destination proto read.0 place read.2) stops
 
 -- all parts one behind the other
 pub read_extended : (entry : Entry) (words first second third end : Words) → BeginsWith (IsProto entry.proto) words first → BeginsWith (IsPlace entry.src) first second

@@ -1,7 +1,6 @@
 pub mod Insertion
 pub mod BitTests
 pub mod LineReadings
-pub mod Reasons
 pub mod Rising
 pub mod ExtendedParts
 pub mod ExtendedStops

@@ -1,22 +1,20 @@
 -- What a line does with a list, from what its parts are read as.
-use Rattle.std.proofs.Common.{◌≡◌, ℕ, ◌-◌, Bool, false, List, [], ◌∷◌, ◌++◌, length, take, slice_get, Option, Some, None, IfSome, refl, sym, ap, ◌∙◌, arith, length-append}
+use Rattle.std.proofs.Common.{◌≡◌, ℕ, Bool, false, List, Option, Some, None, IfSome, refl}
 use Rattle.std.proofs.lemmas.Bool.{false_from_ne_true}
-use Rattle.std.proofs.lemmas.List.{append-nil, take_at, get_or_at}
-use Rattle.std.proofs.lemmas.Option.{slice_get_past, slice_get-get_or}
-use Rattle.ios_lex.specs.declared.reason.IosReason.{IosReason}
+use Rattle.ios_lex.specs.declared.reason.IosReason.TheVariants as ios
 use Rattle.ios_lex.specs.declared.stop.Stop.{Stop}
 use Rattle.ios_lex.specs.Phrases.{Words}
 use Rattle.ios_lex.specs.Stops.{expected_of, is_lax}
-use Rattle.ios_lex.specs.Stops as stops
+use Rattle.ios_lex.proofs.StopReasons.{refused_at_stop}
 use Rattle.ios_acl.specs.declared.entry.Entry.{Entry}
 use Rattle.ios_acl.specs.declared.fault.AclFault.{AclFault}
-use Rattle.ios_acl.specs.declared.fault.AclFault.TheVariants as faults
 use Rattle.ios_acl.specs.Grammar.{IsEntry, IsRemark, IsSentence, entry as of_entry, remark as of_remark}
 use Rattle.ios_acl.specs.List.{AccessList, has_number}
 use Rattle.ios_acl.specs.Reading.{IsOpened, IsTaken, IsRefused, Reads, Sentence}
 use Rattle.ios_acl.specs.Reading as reading
-use Rattle.ios_acl.specs.Stops.{StopsBefore, IsStop}
-use Rattle.ios_acl.specs.Faults.{IsFault, IsFor, stop_reason}
+use Rattle.ios_acl.specs.Refusal.{unmodelled_at}
+use Rattle.ios_acl.specs.Stops.{IsStop}
+use Rattle.ios_acl.specs.Faults.{IsFault, line_reason}
 use Rattle.ios_acl.specs.Adding.{Adds, CannotAdd, with_number}
 use Rattle.ios_acl.specs.Adding as adding
 use Rattle.ios_acl.proofs.Insertion.{spelled_numbered}
@@ -37,25 +35,13 @@ number_is_free extended entries (Some n) rest entry free h =
     false_from_ne_true (has_number entries n)
     (λ has. free (record { n = n; verdict = entry.verdict; more = begins.0; given = refl; has = has; begins = begins.1 }))
 
-refused_before : (list : AccessList) (words : Words) (number : Option ℕ) (rest front back : Words) (stop : Stop) → IsOpened words number rest → (IsTaken list.entries number rest → ⊥)
-    → rest ≡ front ++ back → stop.left ≡ length back → StopsBefore (Sentence list.extended) front stop.due back → IsRefused list words (stop_reason number rest stop)
-refused_before list words number rest front [] stop opened free whole left (stops.short begins not) =
-    let same : front ≡ rest = sym (append-nil front) ∙ sym whole in
-    let none = slice_get_past rest (length rest - stop.left) (omega arith) in
-    rw none (reading.short number rest opened free (rw same at begins) (λ line. not (rw (sym same) at line)))
-refused_before list words number rest front (word ∷ more) stop opened free whole left (stops.word _ _ stopped) =
-    let long = length-append front (word ∷ more) in
-    let place : length rest - stop.left ≡ length front = rw whole (omega arith) in
-    let here : slice_get rest (length rest - stop.left) ≡ Some word =
-    rw place (slice_get-get_or rest (length front) word (rw whole (omega arith)) ∙ ap Some (rw whole (get_or_at front word more word (length front) refl))) in
-    let before : take (length rest - stop.left) rest ≡ front = rw (place, whole) (take_at front (word ∷ more) (length front) refl) in
-    rw (here, before) (reading.stop number rest front more word (expected_of stop.due) (is_lax stop.due) opened free whole stopped)
-
 -- a line is refused where its words stop to begin one
 pub stop_refused : (list : AccessList) (words : Words) (number : Option ℕ) (rest : Words) (stop : Stop) → IsOpened words number rest → (IsTaken list.entries number rest → ⊥)
-    → IsStop (Sentence list.extended) rest stop → IsRefused list words (stop_reason number rest stop)
+    → IsStop (Sentence list.extended) rest stop → IsRefused list words (line_reason number rest stop)
 stop_refused list words number rest stop opened free is =
-    refused_before list words number rest is.front is.back stop opened free is.whole is.left is.stops
+    refused_at_stop (Sentence list.extended) rest stop (IsRefused list words) (unmodelled_at number) (λ _. ios.BadNumber)
+    (λ front more word whole stopped. reading.stop number rest front more word (expected_of stop.due) (is_lax stop.due) opened free whole stopped)
+    (λ begins none. reading.short number rest opened free begins none) is
 
 -- a line whose entry is added is read
 pub added_reads : (list new : AccessList) (words : Words) (number : Option ℕ) (rest : Words) (entry : Entry) → IsOpened words number rest
@@ -73,8 +59,3 @@ not_added_refused list words number rest entry fault opened line (adding.full n 
     let spelled = sentence_entry list.extended false rest entry line in
     reading.full number rest (with_number entry n) opened (spelled_numbered list.extended false entry n rest spelled) is small many
 not_added_refused list words number rest entry fault opened line adding.memory = tt
-
--- a fault for the reason of a refusal is one
-pub fault_is_for : (list : AccessList) (words : Words) (why : IosReason) (fault : AclFault) → IsRefused list words why → IsFor why fault → IsFault list words fault
-fault_is_for list words why (faults.Refused given) refused is = rw is refused
-fault_is_for list words why faults.NoMemory refused is = tt

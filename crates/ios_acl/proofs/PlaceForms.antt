@@ -3,6 +3,7 @@ use Rattle.std.proofs.Common.{◌≡◌, ◌⊎◌, ◌↔◌, inl, inr, ℕ, �
 use Rattle.ios_lex.specs.Address.{IsAddress}
 use Rattle.ios_lex.specs.declared.stop.Due.TheVariants as due
 use Rattle.ios_lex.specs.declared.stop.Stop.{Stop}
+use Rattle.ios_lex.specs.NextWords.{IsAddressOf, SomeAddress}
 use Rattle.ios_lex.specs.Phrases.{Words}
 use Rattle.ios_lex.specs.Following.{Begins, IsNumberWord}
 use Rattle.ios_lex.specs.Stops.{BeginsWith, LacksFirst}
@@ -12,29 +13,7 @@ use Rattle.ios_lex.proofs.WordForms.{other_no_address, other_no_number, no_numbe
 use Rattle.ios_acl.specs.Grammar as grammar
 use Rattle.ios_acl.specs.Grammar.{IsPlace}
 use Rattle.ios_acl.specs.Stops.{IsStop}
-use Rattle.ios_acl.specs.Parts.{IsAddressOf, SomeAddress, SomePlace}
-
--- an address is one word
-address_alone : (n : ℕ) (word : List ℕ) (more : Words) → IsAddressOf n (word ∷ more) → IsAddress word n × (more ≡ [])
-address_alone n word more is = let same : word ≡ is.0 = cc in (rw same is.2, cc)
-
-no_address_left : (n : ℕ) → IsAddressOf n [] → ⊥
-no_address_left n is = absurd (cc)
-
-pub address_read : (words rest : Words) (word : List ℕ) (n : ℕ) → words ≡ word ∷ rest → IsAddress word n → BeginsWith (IsAddressOf n) words rest
-address_read words rest word n whole is = (word ∷ [], whole, (word, refl, is))
-
-pub no_address_begins : (word : List ℕ) → ((n : ℕ) → IsAddress word n → ⊥) → (b : Bool) → Begins (SomeAddress b) (word ∷ []) → ⊥
-no_address_begins word none b begins = none begins.1.0 (address_alone begins.1.0 word begins.0 begins.1.1).0
-
--- no address stands first
-pub address_stop : (words : Words) (stop : Stop) → stop.left ≡ length words → stop.due ≡ due.Address → ((b : Bool) → LacksFirst (SomeAddress b) words)
-    → IsStop SomeAddress words stop
-address_stop words stop left is lacks =
-    stop_at_address SomeAddress words stop left is
-    (codes "0.0.0.0", (0, zero_address), ([], (0, (codes "0.0.0.0", refl, zero_address))))
-    (λ h. no_number_address h.0 h.2.1.0 h.1 (address_alone h.2.1.0 h.0 h.2.0 h.2.1.1).0)
-    (λ h. no_address_left h.0 h.1) lacks
+use Rattle.ios_acl.specs.Parts.{SomePlace}
 
 -- a place begins with a keyword or an address
 place_first : (place : ℕ × ℕ) (word : List ℕ) (more : Words) → IsPlace place (word ∷ more) → (word ≡ codes "any") ⊎ ((word ≡ codes "host") ⊎ IsAddress word place.0)

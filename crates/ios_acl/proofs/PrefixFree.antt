@@ -3,12 +3,9 @@ use Rattle.std.proofs.Common.{ℕ, Bool, ◌++◌, Option, subst, sym, ◌∙◌
 use Rattle.ios_lex.proofs.Stopping.{IsPrefixFree}
 use Rattle.ios_lex.proofs.OneCut.{prefix_free_from_one, single_word_prefix_free}
 use Rattle.ios_acl.specs.Grammar.{IsPlace, IsProto, ArePorts}
-use Rattle.ios_acl.specs.Parts.{SomeAddress, SomePlace, SomeProto, SomePort, SomePorts, SomePortsOf}
+use Rattle.ios_acl.specs.Parts.{SomePlace, SomeProto, SomePort, SomePorts, SomePortsOf}
 use Rattle.ios_acl.proofs.OnePart.{place_is_one, proto_is_one, ports_are_one}
 use Rattle.ios_acl.proofs.OneEnd.{tcp_is_one}
-
-pub address_prefix_free : (b : Bool) → IsPrefixFree (SomeAddress b)
-address_prefix_free b = single_word_prefix_free (SomeAddress b) (λ words is. (is.1.0, is.1.1))
 
 pub port_prefix_free : (tcp b : Bool) → IsPrefixFree (SomePort tcp b)
 port_prefix_free tcp b = single_word_prefix_free (SomePort tcp b) (λ words is. (is.1.0, is.1.1))

@@ -106,15 +106,18 @@ behind_standard v b x = (λ h. forth h.0 h.1, back)
           }),
         )
 
-pub stop_in_extended : (v : Verdict) (words rest : Words) (word : List ℕ) (stop : Stop) → words ≡ word ∷ rest → word ≡ verdict_word v
-    → IsStop SomeExtended rest stop → IsStop (Sentence true) words stop
-stop_in_extended v words rest word stop whole is stops =
-    stop_behind (Sentence true) SomeExtended words (verdict_word v ∷ []) rest stop (rw (whole, is) refl) (behind_extended v) stops
+abbrev pub BehindVerdict : Bool → Bool → Words → Type 0
+BehindVerdict true = SomeExtended
+BehindVerdict false = SomeSourceEnd
 
-pub stop_in_standard : (v : Verdict) (words rest : Words) (word : List ℕ) (stop : Stop) → words ≡ word ∷ rest → word ≡ verdict_word v
-    → IsStop SomeSourceEnd rest stop → IsStop (Sentence false) words stop
-stop_in_standard v words rest word stop whole is stops =
-    stop_behind (Sentence false) SomeSourceEnd words (verdict_word v ∷ []) rest stop (rw (whole, is) refl) (behind_standard v) stops
+behind_verdict : (extended : Bool) (v : Verdict) (b : Bool) (x : Words) → Sentence extended b (verdict_word v ∷ x) ↔ BehindVerdict extended b x
+behind_verdict true v b x = behind_extended v b x
+behind_verdict false v b x = behind_standard v b x
+
+pub stop_behind_verdict : (extended : Bool) (v : Verdict) (words rest : Words) (word : List ℕ) (stop : Stop) → words ≡ word ∷ rest → word ≡ verdict_word v
+    → IsStop (BehindVerdict extended) rest stop → IsStop (Sentence extended) words stop
+stop_behind_verdict extended v words rest word stop whole is stops =
+    stop_behind (Sentence extended) (BehindVerdict extended) words (verdict_word v ∷ []) rest stop (rw (whole, is) refl) (behind_verdict extended v) stops
 
 pub remark_read : (extended b : Bool) (words rest : Words) → words ≡ codes "remark" ∷ rest → IsSentence extended b words None
 remark_read extended b words rest whole = IsSentence.remark (record { text = rest; whole = whole })

@@ -3,6 +3,7 @@ use Rattle.std.proofs.Common.{◌≡◌, ◌↔◌, inl, inr, ℕ, ◌^◌, ◌-
 use Rattle.ios_lex.specs.Address.{IsAddress}
 use Rattle.ios_lex.specs.declared.stop.Due.TheVariants as due
 use Rattle.ios_lex.specs.declared.stop.Stop.{Stop}
+use Rattle.ios_lex.specs.NextWords.{IsAddressOf, SomeAddress}
 use Rattle.ios_lex.specs.Phrases.{Words, Then}
 use Rattle.ios_lex.specs.Following.{Begins, IsNumberWord}
 use Rattle.ios_lex.specs.Stops.{expected_of, BeginsWith, LacksFirst}
@@ -12,9 +13,9 @@ use Rattle.ios_lex.proofs.WordForms.{other_no_address, other_no_number, no_numbe
 use Rattle.ios_acl.specs.Grammar as grammar
 use Rattle.ios_acl.specs.Grammar.{IsSource, IsLog}
 use Rattle.ios_acl.specs.Stops.{IsStop}
-use Rattle.ios_acl.specs.Parts.{IsAddressOf, IsWildcardOf, IsWildcardEnd, IsSourceEnd, SomeAddress, SomeWildcardEnd, SomeSourceEnd, SomeLog}
+use Rattle.ios_acl.specs.Parts.{IsWildcardOf, IsWildcardEnd, IsSourceEnd, SomeWildcardEnd, SomeSourceEnd, SomeLog}
 use Rattle.ios_acl.proofs.PlaceForms.{host_read}
-use Rattle.ios_acl.proofs.PrefixFree.{address_prefix_free}
+use Rattle.ios_lex.proofs.LineParts.{address_part}
 use Rattle.ios_acl.proofs.WildcardForms.{wildcard_none, wildcard_some}
 
 -- what stands behind `host`
@@ -147,7 +148,7 @@ pub source_host_stop : (words rest : Words) (stop : Stop) → words ≡ codes "h
     → IsStop SomeSourceEnd words stop
 source_host_stop words rest stop whole part stops =
     stop_behind SomeSourceEnd SomeHostEnd words (codes "host" ∷ []) rest stop whole host_same
-    (stop_within SomeAddress SomeHostEnd rest stop host_first_part address_prefix_free (λ x address. address) part stops)
+    (stop_within SomeAddress SomeHostEnd rest stop host_first_part address_part.free (λ x address. address) part stops)
 
 host_end_same : (n : ℕ) (front : Words) → IsAddressOf n front → (b : Bool) (x : Words) → SomeHostEnd b (front ++ x) ↔ SomeLog false b x
 host_end_same n front address b x =

@@ -11,7 +11,8 @@ abbrev pub with_number : Entry → ℕ → Entry
 with_number entry n = record entry { number = n }
 
 -- the list has room for the entry, and takes it under its number or the next one
-pub record Adds (list : AccessList) (entry : Entry) (number : Option ℕ) (new : AccessList) : Type 0 where
+pub record Adds (list : AccessList) (entry : Entry) (number : Option ℕ)
+    (new : AccessList) : Type 0 where
   pub n : ℕ
   pub is_number : IsNumberOf list.entries number n
   pub small : n ≤ greatest_sequence
@@ -20,6 +21,8 @@ pub record Adds (list : AccessList) (entry : Entry) (number : Option ℕ) (new :
 
 -- no number is left for the entry, or no room
 pub data CannotAdd (list : AccessList) (number : Option ℕ) : AclFault → Type 0 where
-  overflow : number ≡ None → greatest_sequence < next_number list.entries → CannotAdd list number (fault.Refused reason.BadNumber)
-  full : (n : ℕ) → IsNumberOf list.entries number n → n ≤ greatest_sequence → most_entries ≤ length list.entries → CannotAdd list number (fault.Refused reason.TooMany)
+  overflow : number ≡ None → greatest_sequence < next_number list.entries
+      → CannotAdd list number (fault.Refused reason.BadNumber)
+  full : (n : ℕ) → IsNumberOf list.entries number n → n ≤ greatest_sequence
+      → most_entries ≤ length list.entries → CannotAdd list number (fault.Refused reason.TooMany)
   memory : CannotAdd list number fault.NoMemory

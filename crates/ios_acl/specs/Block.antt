@@ -11,7 +11,8 @@ use Rattle.ios_acl.specs.Reading.{Reads}
 -- the list becomes `new` when the lines are read one after another
 pub data ReadsAll : AccessList → List Words → AccessList → Type 0 where
   end : (list : AccessList) → ReadsAll list [] list
-  line : (list next new : AccessList) (words : Words) (lines : List Words) → Reads list words next → ReadsAll next lines new → ReadsAll list (words ∷ lines) new
+  line : (list next new : AccessList) (words : Words) (lines : List Words) → Reads list words next
+      → ReadsAll next lines new → ReadsAll list (words ∷ lines) new
 
 abbrev pub empty_list : List ℕ → Bool → AccessList
 empty_list name extended = record { name = name; extended = extended; entries = [] }
@@ -22,7 +23,8 @@ kind_word false = codes "standard"
 
 -- the line that opens the block of this list
 pub record OpensBlock (list : AccessList) (line : Reading) : Type 0 where
-  pub words : line.words ≡ codes "ip" ∷ codes "access-list" ∷ kind_word list.extended ∷ list.name ∷ []
+  pub words :
+      line.words ≡ codes "ip" ∷ codes "access-list" ∷ kind_word list.extended ∷ list.name ∷ []
   pub unindented : line.indented ≡ false
   pub outside : line.banner ≡ false
 
@@ -38,7 +40,9 @@ pub record IsBlock (text : List ℕ) (list : AccessList) : Type 0 where
   pub whole : AreLines 1 (raw_lines text) (opening ∷ lines)
   pub opens : OpensBlock list opening
   pub within : AllByRecursion IsWithinBlock lines
-  pub reads : ReadsAll (empty_list list.name list.extended) (map (λ (line : Reading). line.words) lines) list
+  pub reads :
+      ReadsAll (empty_list list.name list.extended)
+      (map (λ (line : Reading). line.words) lines) list
 
 -- the name can stand in the line that opens the block of a list of this kind
 pub record IsBlockName (extended : Bool) (name : List ℕ) : Type 0 where

@@ -22,18 +22,22 @@ IsVerdict verdict words = words ≡ verdict_word verdict ∷ []
 -- addresses, so the first word says which
 pub data IsPlace (place : ℕ × ℕ) (words : Words) : Type 0 where
   any : words ≡ codes "any" ∷ [] → place ≡ (0, 2 ^ 32 - 1) → IsPlace place words
-  host : (word : List ℕ) → words ≡ codes "host" ∷ word ∷ [] → IsAddress word place.0 → place.1 ≡ 0 → IsPlace place words
-  some : (word other : List ℕ) → words ≡ word ∷ other ∷ [] → IsAddress word place.0 → IsAddress other place.1 → IsPlace place words
+  host : (word : List ℕ) → words ≡ codes "host" ∷ word ∷ [] → IsAddress word place.0 → place.1 ≡ 0
+      → IsPlace place words
+  some : (word other : List ℕ) → words ≡ word ∷ other ∷ [] → IsAddress word place.0
+      → IsAddress other place.1 → IsPlace place words
 
 -- in a standard list an address alone is a host too
 pub data IsSource (place : ℕ × ℕ) (words : Words) : Type 0 where
   place : IsPlace place words → IsSource place words
-  single : (word : List ℕ) → words ≡ word ∷ [] → IsAddress word place.0 → place.1 ≡ 0 → IsSource place words
+  single : (word : List ℕ) → words ≡ word ∷ [] → IsAddress word place.0 → place.1 ≡ 0
+      → IsSource place words
 
 -- `ip` is every protocol
 pub data IsProto (proto : Option ℕ) (words : Words) : Type 0 where
   every : words ≡ codes "ip" ∷ [] → proto ≡ None → IsProto proto words
-  one : (word : List ℕ) (n : ℕ) → words ≡ word ∷ [] → IsProtocol word n → proto ≡ Some n → IsProto proto words
+  one : (word : List ℕ) (n : ℕ) → words ≡ word ∷ [] → IsProtocol word n → proto ≡ Some n
+      → IsProto proto words
 
 -- the ports before this one
 abbrev pub ports_below : ℕ → Ports
@@ -45,35 +49,47 @@ ports_above port = if port == 65535 then ports.Nothing else ports.Within (port +
 
 -- a test of ports. A range ends where it begins or behind, unless it may be backward
 pub data ArePorts (backward tcp : Bool) (tested : Ports) (words : Words) : Type 0 where
-  eq : (word : List ℕ) (p : ℕ) → words ≡ codes "eq" ∷ word ∷ [] → IsPort tcp word p → tested ≡ ports.Within p p → ArePorts backward tcp tested words
-  neq : (word : List ℕ) (p : ℕ) → words ≡ codes "neq" ∷ word ∷ [] → IsPort tcp word p → tested ≡ ports.Not p → ArePorts backward tcp tested words
-  lt : (word : List ℕ) (p : ℕ) → words ≡ codes "lt" ∷ word ∷ [] → IsPort tcp word p → tested ≡ ports_below p → ArePorts backward tcp tested words
-  gt : (word : List ℕ) (p : ℕ) → words ≡ codes "gt" ∷ word ∷ [] → IsPort tcp word p → tested ≡ ports_above p → ArePorts backward tcp tested words
-  range : (word other : List ℕ) (p q : ℕ) → words ≡ codes "range" ∷ word ∷ other ∷ [] → IsPort tcp word p → IsPort tcp other q → (backward ≡ false → p ≤ q) → tested ≡ ports.Within p q → ArePorts backward tcp tested words
+  eq : (word : List ℕ) (p : ℕ) → words ≡ codes "eq" ∷ word ∷ [] → IsPort tcp word p
+      → tested ≡ ports.Within p p → ArePorts backward tcp tested words
+  neq : (word : List ℕ) (p : ℕ) → words ≡ codes "neq" ∷ word ∷ [] → IsPort tcp word p
+      → tested ≡ ports.Not p → ArePorts backward tcp tested words
+  lt : (word : List ℕ) (p : ℕ) → words ≡ codes "lt" ∷ word ∷ [] → IsPort tcp word p
+      → tested ≡ ports_below p → ArePorts backward tcp tested words
+  gt : (word : List ℕ) (p : ℕ) → words ≡ codes "gt" ∷ word ∷ [] → IsPort tcp word p
+      → tested ≡ ports_above p → ArePorts backward tcp tested words
+  range : (word other : List ℕ) (p q : ℕ) → words ≡ codes "range" ∷ word ∷ other ∷ []
+      → IsPort tcp word p → IsPort tcp other q → (backward ≡ false → p ≤ q)
+      → tested ≡ ports.Within p q → ArePorts backward tcp tested words
 
 -- the number of TCP is 6, that of UDP 17
 abbrev pub with_ports : Bool → Option ℕ
 with_ports tcp = Some (if tcp then 6 else 17)
 
 -- TCP and UDP have ports, and a test of them may be left out
-pub data ArePortsOf (backward : Bool) (proto : Option ℕ) (tested : Ports) (words : Words) : Type 0 where
+pub data ArePortsOf (backward : Bool) (proto : Option ℕ) (tested : Ports)
+    (words : Words) : Type 0 where
   none : words ≡ [] → tested ≡ ports.Any → ArePortsOf backward proto tested words
-  test : (tcp : Bool) → proto ≡ with_ports tcp → ArePorts backward tcp tested words → ArePortsOf backward proto tested words
+  test : (tcp : Bool) → proto ≡ with_ports tcp → ArePorts backward tcp tested words
+      → ArePortsOf backward proto tested words
 
 -- a type or a name, or a type and a code
 pub data AreMessages (message : ℕ × Option ℕ) (words : Words) : Type 0 where
   one : (word : List ℕ) → words ≡ word ∷ [] → IsMessage word message → AreMessages message words
-  code : (word other : List ℕ) (n : ℕ) → words ≡ word ∷ other ∷ [] → IsNumber 255 word message.0 → IsNumber 255 other n → message.1 ≡ Some n → AreMessages message words
+  code : (word other : List ℕ) (n : ℕ) → words ≡ word ∷ other ∷ [] → IsNumber 255 word message.0
+      → IsNumber 255 other n → message.1 ≡ Some n → AreMessages message words
 
 -- ICMP, protocol 1, has messages, and they may be left out
-pub data AreMessagesOf (proto : Option ℕ) (icmp : Option (ℕ × Option ℕ)) (words : Words) : Type 0 where
+pub data AreMessagesOf (proto : Option ℕ) (icmp : Option (ℕ × Option ℕ))
+    (words : Words) : Type 0 where
   none : words ≡ [] → icmp ≡ None → AreMessagesOf proto icmp words
-  some : (message : ℕ × Option ℕ) → proto ≡ Some 1 → AreMessages message words → icmp ≡ Some message → AreMessagesOf proto icmp words
+  some : (message : ℕ × Option ℕ) → proto ≡ Some 1 → AreMessages message words → icmp ≡ Some message
+      → AreMessagesOf proto icmp words
 
 -- TCP has connections, and that they are established may be left out
 pub data IsEstablishedOf (proto : Option ℕ) (established : Bool) (words : Words) : Type 0 where
   none : words ≡ [] → established ≡ false → IsEstablishedOf proto established words
-  some : proto ≡ Some 6 → words ≡ codes "established" ∷ [] → established ≡ true → IsEstablishedOf proto established words
+  some : proto ≡ Some 6 → words ≡ codes "established" ∷ [] → established ≡ true
+      → IsEstablishedOf proto established words
 
 -- a word on logging, without effect on what matches, may be left out
 pub data IsLog (extended : Bool) (words : Words) : Type 0 where
@@ -117,5 +133,6 @@ pub record IsRemark (words : Words) : Type 0 where
 
 -- what stands on a line behind its number: an entry, or a remark, which is none
 pub data IsSentence (extended backward : Bool) (words : Words) : Option Entry → Type 0 where
-  entry : (entry : Entry) → IsEntry extended backward entry words → IsSentence extended backward words (Some entry)
+  entry : (entry : Entry) → IsEntry extended backward entry words
+      → IsSentence extended backward words (Some entry)
   remark : IsRemark words → IsSentence extended backward words None

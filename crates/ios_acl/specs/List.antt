@@ -25,7 +25,9 @@ has_number entries number = list_any (λ entry. entry.number == number) entries
 -- the list with one more entry, behind those of smaller numbers and before those of greater ones
 abbrev pub with_entry : AccessList → Entry → AccessList
 with_entry list entry = record list {
-  entries = filter (λ e. nat_lt e.number entry.number) list.entries ++ entry ∷ filter (λ e. nat_lt entry.number e.number) list.entries;
+  entries =
+      filter (λ e. nat_lt e.number entry.number) list.entries
+      ++ entry ∷ filter (λ e. nat_lt entry.number e.number) list.entries;
 }
 
 -- the greatest number that an entry may have
@@ -45,7 +47,8 @@ pub record IsWritable (extended : Bool) (entry : Entry) : Type 0 where
 -- the entries stand in the order of their numbers, and no two have one number
 abbrev pub IsRising : List Entry → Type 0
 IsRising [] = Unit {0}
-IsRising (entry ∷ entries) = AllByRecursion (λ (other : Entry). entry.number < other.number) entries × IsRising entries
+IsRising (entry ∷ entries) =
+    AllByRecursion (λ (other : Entry). entry.number < other.number) entries × IsRising entries
 
 -- a list that can be read
 pub record IsAccessList (list : AccessList) : Type 0 where

@@ -1,19 +1,13 @@
 -- The parts of a line as kinds of words, whatever their values. Private calls are stated by them, and no public one.
 use Rattle.std.specs.Prelude.{◌≡◌, ◌⊎◌, ℕ, ◌≤◌, Bool, true, false, ◌||◌, ◌&&◌, List, [], ◌∷◌, Option, Some, None, codes}
 use Rattle.std.specs.Str.{bytes_eq}
-use Rattle.ios_lex.specs.Address.{IsAddress}
 use Rattle.ios_lex.specs.Decimal.{IsNumber}
 use Rattle.ios_lex.specs.Names.{IsPort}
+use Rattle.ios_lex.specs.NextWords.{IsAddressOf}
 use Rattle.ios_lex.specs.Phrases.{Words, Then}
 use Rattle.ios_acl.specs.declared.entry.Entry.{Entry}
 use Rattle.ios_acl.specs.declared.entry.Ports.{Ports}
 use Rattle.ios_acl.specs.Grammar.{IsPlace, IsSource, IsProto, ArePorts, ArePortsOf, AreMessagesOf, IsEstablishedOf, IsLog, IsExtended, with_ports}
-
-abbrev pub IsAddressOf : ℕ → Words → Type 0
-IsAddressOf n words = (word : List ℕ) × (words ≡ word ∷ []) × IsAddress word n
-
-abbrev pub SomeAddress : Bool → Words → Type 0
-SomeAddress backward words = (n : ℕ) × IsAddressOf n words
 
 abbrev pub SomePlace : Bool → Words → Type 0
 SomePlace backward words = (place : ℕ × ℕ) × IsPlace place words
@@ -29,7 +23,8 @@ SomePort tcp backward words = (n : ℕ) × IsPortOf tcp n words
 
 -- a port that is not before the first of a range
 abbrev pub SomePortFrom : Bool → ℕ → Bool → Words → Type 0
-SomePortFrom tcp first backward words = (n : ℕ) × IsPortOf tcp n words × (backward ≡ false → first ≤ n)
+SomePortFrom tcp first backward words =
+    (n : ℕ) × IsPortOf tcp n words × (backward ≡ false → first ≤ n)
 
 abbrev pub SomePorts : Bool → Bool → Words → Type 0
 SomePorts tcp backward words = (tested : Ports) × ArePorts backward tcp tested words
@@ -43,7 +38,9 @@ IsEnd backward proto tested icmp established =
     IsLog true)))
 
 abbrev pub SomeEnd : Option ℕ → Bool → Words → Type 0
-SomeEnd proto backward words = (tested : Ports) × (icmp : Option (ℕ × Option ℕ)) × (established : Bool) × IsEnd backward proto tested icmp established words
+SomeEnd proto backward words =
+    (tested : Ports) × (icmp : Option (ℕ × Option ℕ)) × (established : Bool)
+    × IsEnd backward proto tested icmp established words
 
 -- a type or a name, or a type and a code, or nothing; and then perhaps a word on logging
 abbrev pub IsMessageEnd : Option (ℕ × Option ℕ) → Words → Type 0
@@ -97,7 +94,8 @@ abbrev pub port_words : Words
 port_words = codes "eq" ∷ codes "neq" ∷ codes "lt" ∷ codes "gt" ∷ codes "range" ∷ []
 
 abbrev pub is_log_word : Bool → List ℕ → Bool
-is_log_word extended word = bytes_eq word (codes "log") || (extended && bytes_eq word (codes "log-input"))
+is_log_word extended word =
+    bytes_eq word (codes "log") || (extended && bytes_eq word (codes "log-input"))
 
 -- nothing stands there, or a word on logging
 abbrev pub is_log_next : Words → Bool
@@ -106,4 +104,5 @@ is_log_next (word ∷ words) = is_log_word true word
 
 -- a test of ports, where the protocol has any
 abbrev pub SomePortsOf : Option ℕ → Bool → Words → Type 0
-SomePortsOf proto backward words = (tcp : Bool) × (proto ≡ with_ports tcp) × SomePorts tcp backward words
+SomePortsOf proto backward words =
+    (tcp : Bool) × (proto ≡ with_ports tcp) × SomePorts tcp backward words

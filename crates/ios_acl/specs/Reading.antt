@@ -19,8 +19,11 @@ pub record IsSequence (word : List ℕ) (n : ℕ) : Type 0 where
 
 -- a number may stand before the rest of the line
 pub data IsOpened (words : Words) (number : Option ℕ) (rest : Words) : Type 0 where
-  numbered : (word : List ℕ) (n : ℕ) → words ≡ word ∷ rest → IsSequence word n → number ≡ Some n → IsOpened words number rest
-  plain : words ≡ rest → ((word : List ℕ) (n : ℕ) (more : Words) → words ≡ word ∷ more → IsSequence word n → ⊥) → number ≡ None → IsOpened words number rest
+  numbered : (word : List ℕ) (n : ℕ) → words ≡ word ∷ rest → IsSequence word n → number ≡ Some n
+      → IsOpened words number rest
+  plain : words ≡ rest
+      → ((word : List ℕ) (n : ℕ) (more : Words) → words ≡ word ∷ more → IsSequence word n → ⊥)
+      → number ≡ None → IsOpened words number rest
 
 -- the number of an entry that is written with this one, or without one
 pub data IsNumberOf (entries : List Entry) (number : Option ℕ) (n : ℕ) : Type 0 where
@@ -29,9 +32,12 @@ pub data IsNumberOf (entries : List Entry) (number : Option ℕ) (n : ℕ) : Typ
 
 -- a remark leaves the list as it is, and an entry is added
 pub data Reads (list : AccessList) (words : Words) (new : AccessList) : Type 0 where
-  remark : (number : Option ℕ) (rest : Words) → IsOpened words number rest → IsRemark rest → new ≡ list → Reads list words new
-  entry : (number : Option ℕ) (rest : Words) (entry : Entry) → IsOpened words number rest → IsEntry list.extended false entry rest
-      → IsNumberOf list.entries number entry.number → entry.number ≤ greatest_sequence → length list.entries < most_entries
+  remark : (number : Option ℕ) (rest : Words) → IsOpened words number rest → IsRemark rest
+      → new ≡ list → Reads list words new
+  entry : (number : Option ℕ) (rest : Words) (entry : Entry) → IsOpened words number rest
+      → IsEntry list.extended false entry rest
+      → IsNumberOf list.entries number entry.number → entry.number ≤ greatest_sequence
+      → length list.entries < most_entries
       → new ≡ with_entry list entry → Reads list words new
 
 -- the rest of a line, in a list of this kind. Ranges of ports that end before they begin are taken as well where they may be backward
@@ -50,19 +56,26 @@ pub record IsTaken (entries : List Entry) (number : Option ℕ) (rest : Words) :
 -- why a list does not take a line
 pub data IsRefused (list : AccessList) (words : Words) : IosReason → Type 0 where
   -- its number is taken, which shows at the word of the verdict
-  taken : (number : Option ℕ) (rest : Words) → IsOpened words number rest → IsTaken list.entries number rest → IsRefused list words reason.DuplicateSequence
+  taken : (number : Option ℕ) (rest : Words) → IsOpened words number rest
+      → IsTaken list.entries number rest → IsRefused list words reason.DuplicateSequence
   -- it goes wrong at a word
-  stop : (number : Option ℕ) (rest front more : Words) (word : List ℕ) (expected : Expected) (backward : Bool)
+  stop : (number : Option ℕ) (rest front more : Words) (word : List ℕ)
+      (expected : Expected) (backward : Bool)
       → IsOpened words number rest → (IsTaken list.entries number rest → ⊥)
       → rest ≡ front ++ word ∷ more → StopsAt (Sentence list.extended) front word expected backward
       → IsRefused list words (reason_at number front expected backward word)
   -- it ends too early
-  short : (number : Option ℕ) (rest : Words) → IsOpened words number rest → (IsTaken list.entries number rest → ⊥)
-      → Begins (Sentence list.extended false) rest → (Sentence list.extended false rest → ⊥) → IsRefused list words reason.BadEntry
+  short : (number : Option ℕ) (rest : Words) → IsOpened words number rest
+      → (IsTaken list.entries number rest → ⊥)
+      → Begins (Sentence list.extended false) rest → (Sentence list.extended false rest → ⊥)
+      → IsRefused list words reason.BadEntry
   -- no number is left for it
-  overflow : (rest : Words) (entry : Entry) → IsOpened words None rest → IsEntry list.extended false entry rest
+  overflow : (rest : Words) (entry : Entry) → IsOpened words None rest
+      → IsEntry list.extended false entry rest
       → greatest_sequence < next_number list.entries → IsRefused list words reason.BadNumber
   -- the list is full
-  full : (number : Option ℕ) (rest : Words) (entry : Entry) → IsOpened words number rest → IsEntry list.extended false entry rest
-      → IsNumberOf list.entries number entry.number → entry.number ≤ greatest_sequence → most_entries ≤ length list.entries
+  full : (number : Option ℕ) (rest : Words) (entry : Entry) → IsOpened words number rest
+      → IsEntry list.extended false entry rest
+      → IsNumberOf list.entries number entry.number → entry.number ≤ greatest_sequence
+      → most_entries ≤ length list.entries
       → IsRefused list words reason.TooMany

@@ -20,10 +20,16 @@ place_words place =
 -- the protocols that have words of their own behind them, ICMP, TCP and UDP, are named
 abbrev pub proto_word : Option ℕ → List ℕ
 proto_word None = codes "ip"
-proto_word (Some n) = if n == 1 then codes "icmp" else if n == 6 then codes "tcp" else if n == 17 then codes "udp" else decimal n
+proto_word (Some n) =
+    if n == 1 then codes "icmp"
+    else if n == 6 then codes "tcp"
+    else if n == 17 then codes "udp"
+    else decimal n
 
 abbrev pub range_words : ℕ → ℕ → Words
-range_words low high = if low == high then codes "eq" ∷ decimal low ∷ [] else codes "range" ∷ decimal low ∷ decimal high ∷ []
+range_words low high =
+    if low == high then codes "eq" ∷ decimal low ∷ []
+    else codes "range" ∷ decimal low ∷ decimal high ∷ []
 
 abbrev pub ports_words : Ports → Words
 ports_words ports.Any = []
@@ -69,7 +75,8 @@ behind_blanks (word ∷ words) = 32 ∷ (word ++ behind_blanks words)
 
 -- a line feed, 10, ends the line
 unfoldable pub opening_line : Bool → List ℕ → List ℕ
-opening_line extended name = codes "ip" ++ (behind_blanks (codes "access-list" ∷ kind_word extended ∷ name ∷ []) ++ 10 ∷ [])
+opening_line extended name =
+    codes "ip" ++ (behind_blanks (codes "access-list" ∷ kind_word extended ∷ name ∷ []) ++ 10 ∷ [])
 
 unfoldable pub entry_line : Bool → Entry → List ℕ
 entry_line extended entry = behind_blanks (entry_words extended entry) ++ 10 ∷ []

@@ -5,7 +5,7 @@ ghost use Rattle.ios_acl.specs.List.{IsRising};
 ghost use Rattle.ios_acl.specs.Reading.{Reads};
 
 use crate::entry::{Entry, Verdict};
-use crate::fault::{AclFault, fault_of};
+use crate::fault::{AclFault, line_reason};
 use crate::numbers::{is_taken, number_of, opened, place_of};
 use crate::packet::Packet;
 use crate::spelled::sentence;
@@ -30,9 +30,17 @@ impl Model for Acl {
 
     ghost Value = { AccessList };
 
-    ghost view = { λ a. record { name = a.name; extended = a.extended; entries = a.entries.items } };
+    ghost view = { λ a. record {
+      name = a.name;
+      extended = a.extended;
+      entries = a.entries.items;
+    } };
 
-    ghost invariant = { λ a. IsAccessList (record { name = a.name; extended = a.extended; entries = a.entries.items }) };
+    ghost invariant = { λ a. IsAccessList (record {
+      name = a.name;
+      extended = a.extended;
+      entries = a.entries.items;
+    }) };
 }
 
 impl Acl {
@@ -108,7 +116,10 @@ impl Acl {
         }
         let line = match sentence(rest, self.extended) {
             Ok(line) => line,
-            Err(stop) => return Err(fault_of(self.alloc, number, rest, stop)),
+            Err(stop) => {
+                let why = line_reason(self.alloc, number, rest, stop)?;
+                return Err(AclFault::Refused(why));
+            }
         };
         match line {
             Some(entry) => self.add(entry, number),

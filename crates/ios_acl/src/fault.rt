@@ -1,11 +1,11 @@
-ghost use Rattle.std.specs.Prelude.{◌≡◌, ◌≤◌, length, IfOk, IfErr};
+ghost use Rattle.std.specs.Prelude.{◌≡◌, ◌≤◌, length, IfOk};
 ghost use Rattle.ios_lex.specs.Refusal.{is_among as is_among_lem};
 ghost use Rattle.ios_lex.specs.declared.reason.IosReason.TheVariants as reasons;
-ghost use Rattle.ios_acl.specs.declared.fault.AclFault.TheVariants as fault_named;
-ghost use Rattle.ios_acl.specs.Faults.{IsFor, stop_reason};
+ghost use Rattle.ios_acl.specs.Faults as faults;
+ghost use Rattle.ios_acl.specs.Faults.{IsFor};
 ghost use Rattle.ios_acl.specs.Refusal as specs;
 
-use ios_lex::{IosReason, Stop, Word, is_among, reason_of, table_at};
+use ios_lex::{IosReason, Stop, Word, is_among, stop_reason, table_at};
 use std::alloc::{AllocError, Global};
 
 /// Why a line is not read into a list.
@@ -13,6 +13,16 @@ use std::alloc::{AllocError, Global};
 pub enum AclFault {
     Refused(IosReason),
     NoMemory,
+}
+
+impl From<AllocError> for AclFault {
+    ghost use Rattle.ios_acl.specs.declared.fault.AclFault.TheVariants.{NoMemory};
+
+    ghost from_gives = { λ _ fault. fault ≡ NoMemory };
+
+    fn from(_: AllocError) -> AclFault {
+        AclFault::NoMemory
+    }
 }
 
 /// The words that narrow what an entry matches in a way that is not modelled.
@@ -40,17 +50,19 @@ const UNMODELLED: [&str; 18] = [
 /// The words that are not modelled as the first of a line.
 const UNMODELLED_FIRST: [&str; 2] = ["evaluate", "dynamic"];
 
-/// The fault of a stop in the words behind the number of a line.
-pub fn fault_of(alloc: Global, number: Option<u32>, words: &[Word], stop: Stop) -> AclFault
+/// The reason of a stop in the words behind the number of a line.
+pub fn line_reason(
+    alloc: Global,
+    number: Option<u32>,
+    words: &[Word],
+    stop: Stop,
+) -> Result<IosReason, AllocError>
     requires { stop.left ≤ length words.now }
-    ensures { IsFor (stop_reason number words.now stop) result }
+    ensures { IfOk result (λ why. why ≡ faults.line_reason number words.now stop) }
 {
-    if stop.left == 0 {
-        return AclFault::Refused(IosReason::BadEntry);
-    }
     let place = words.len() - stop.left;
     let table = table_at(from_word(number), &UNMODELLED_FIRST, &UNMODELLED, place);
-    fault(reason_of(alloc, &words[place], table, stop.due, IosReason::BadNumber))
+    stop_reason(alloc, words, stop, table, IosReason::BadNumber)
 }
 
 /// The place from which on words of a line of this number, or of none, are refused as all others are.
@@ -58,17 +70,6 @@ fn from_word(number: Option<u32>) -> usize
     ensures { result ≡ specs.from_word number }
 {
     if number.is_some() { 0 } else { 1 }
-}
-
-/// The fault of this reason, or that memory is wanting.
-fn fault(reason: Result<IosReason, AllocError>) -> AclFault
-    ensures refused { IfOk reason (λ why. result ≡ fault_named.Refused why) }
-    ensures memory { IfErr reason (λ _. result ≡ fault_named.NoMemory) }
-{
-    match reason {
-        Ok(why) => AclFault::Refused(why),
-        Err(_) => AclFault::NoMemory,
-    }
 }
 
 /// Whether the word narrows what an entry matches in a way that is not modelled.
@@ -82,5 +83,8 @@ pub fn is_unmodelled(word: &Word) -> bool
 pub fn unmodelled(alloc: Global, word: &Word) -> AclFault
     ensures { IsFor (reasons.Unmodelled word.now) result }
 {
-    fault(ios_lex::unmodelled(alloc, word))
+    match ios_lex::unmodelled(alloc, word) {
+        Ok(why) => AclFault::Refused(why),
+        Err(_) => AclFault::NoMemory,
+    }
 }

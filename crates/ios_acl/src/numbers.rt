@@ -82,7 +82,8 @@ pub fn number_of(entries: &[Entry], number: Option<u32>) -> Option<u32>
     ensures some { IfSome result (λ n. 0 < n) }
     ensures small { IfSome result (λ n. n ≤ greatest_sequence) }
     ensures free { IfSome result (λ n. specs.has_number entries.now n ≡ false) }
-    ensures none { IfNone result ((number ≡ None) × (greatest_sequence < specs.next_number entries.now)) }
+    ensures none { IfNone result
+        ((number ≡ None) × (greatest_sequence < specs.next_number entries.now)) }
 {
     match number {
         Some(number) => Some(number),

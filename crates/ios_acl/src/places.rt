@@ -2,25 +2,10 @@ ghost use Rattle.std.specs.Prelude.{◌≡◌, false, IfOk, IfErr};
 ghost use Rattle.ios_lex.specs.Stops.{BeginsWith, expected_of};
 ghost use Rattle.ios_acl.specs.Grammar.{IsPlace};
 ghost use Rattle.ios_acl.specs.Stops.{IsStop};
-ghost use Rattle.ios_acl.specs.Parts.{IsAddressOf, IsSourceEnd, IsWildcardEnd, SomeAddress, SomePlace, SomeSourceEnd, SomeWildcardEnd};
+ghost use Rattle.ios_acl.specs.Parts.{IsSourceEnd, IsWildcardEnd, SomePlace, SomeSourceEnd, SomeWildcardEnd};
 
 use crate::endings::end;
-use ios_lex::{Due, Stop, Word, address, stop_before};
-
-/// The address that the words begin with, and the words behind it.
-fn address_next(words: &[Word]) -> Result<(u32, &[Word]), Stop>
-    ensures read { IfOk result (λ found. BeginsWith (IsAddressOf found.0) words.now found.1.now) }
-    ensures stop { IfErr result (IsStop SomeAddress words.now) }
-    ensures part { IfErr result (λ stop. (expected_of stop.due).whole ≡ false) }
-{
-    let Some((first, rest)) = words.split_first() else {
-        return Err(stop_before(words, Due::Address));
-    };
-    let Some(found) = address(first.bytes()) else {
-        return Err(stop_before(words, Due::Address));
-    };
-    Ok((found, rest))
-}
+use ios_lex::{Due, Stop, Word, address, next_address, stop_before};
 
 /// The address and the wildcard that the words begin with, as `any`, `host A` or `A W`, and the words behind them.
 pub fn place(words: &[Word]) -> Result<((u32, u32), &[Word]), Stop>
@@ -35,13 +20,13 @@ pub fn place(words: &[Word]) -> Result<((u32, u32), &[Word]), Stop>
         return Ok(((0, u32::MAX), rest));
     }
     if first.is("host") {
-        let (host, rest) = address_next(rest)?;
+        let (host, rest) = next_address(rest)?;
         return Ok(((host, 0), rest));
     }
     let Some(some) = address(first.bytes()) else {
         return Err(stop_before(words, Due::Address));
     };
-    let (wildcard, rest) = address_next(rest)?;
+    let (wildcard, rest) = next_address(rest)?;
     Ok(((some, wildcard), rest))
 }
 
@@ -59,7 +44,7 @@ pub fn source_end(words: &[Word]) -> Result<(u32, u32), Stop>
         return Ok((0, u32::MAX));
     }
     if first.is("host") {
-        let (host, rest) = address_next(rest)?;
+        let (host, rest) = next_address(rest)?;
         end(rest, false)?;
         return Ok((host, 0));
     }

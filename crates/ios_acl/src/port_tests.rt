@@ -75,7 +75,8 @@ fn begins_test(word: &Word) -> bool
 /// The test of ports that the words begin with, and the words behind it.
 fn port_test<'a>(first: &Word, rest: &'a [Word], tcp: bool) -> Result<(Ports, &'a [Word]), Stop>
     requires { IsTrue (is_among port_words first.now) }
-    ensures read { IfOk result (λ found. BeginsWith (ArePorts false tcp found.0) (first.now ∷ rest.now) found.1.now) }
+    ensures read { IfOk result
+        (λ found. BeginsWith (ArePorts false tcp found.0) (first.now ∷ rest.now) found.1.now) }
     ensures stop { IfErr result (IsStop (SomePorts tcp) (first.now ∷ rest.now)) }
     ensures part { IfErr result (λ stop. (expected_of stop.due).whole ≡ false) }
     ensures later { IfErr result (λ stop. stop.left ≤ length rest.now) }
@@ -97,8 +98,10 @@ fn port_test<'a>(first: &Word, rest: &'a [Word], tcp: bool) -> Result<(Ports, &'
 
 /// The test of ports that the words may begin with, and the words behind it.
 pub fn ports(words: &[Word], tcp: bool) -> Result<(Ports, &[Word]), Stop>
-    ensures read { IfOk result (λ found. BeginsWith (ArePorts false tcp found.0) words.now found.1.now
-        ⊎ (found.0 ≡ ports_of.Any) × (found.1.now ≡ words.now) × LacksFirst (SomePorts tcp true) words.now) }
+    ensures read { IfOk result
+        (λ found. BeginsWith (ArePorts false tcp found.0) words.now found.1.now
+        ⊎ (found.0 ≡ ports_of.Any) × (found.1.now ≡ words.now)
+        × LacksFirst (SomePorts tcp true) words.now) }
     ensures stop { IfErr result (IsStop (SomePorts tcp) words.now) }
     ensures part { IfErr result (λ stop. (expected_of stop.due).whole ≡ false) }
     ensures later { IfErr result (λ stop. stop.left < length words.now) }

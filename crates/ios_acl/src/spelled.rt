@@ -43,8 +43,10 @@ fn proto_next(words: &[Word]) -> Result<(Option<u8>, &[Word]), Stop>
 
 /// The test of the source's ports that the words may begin with, where the protocol has ports.
 fn source_ports(words: &[Word], proto: Option<u8>) -> Result<(Ports, &[Word]), Stop>
-    ensures read { IfOk result (λ found. BeginsWith (ArePortsOf false proto found.0) words.now found.1.now) }
-    ensures skipped { IfOk result (λ found. found.1.now ≡ words.now → LacksFirst (SomePortsOf proto true) words.now) }
+    ensures read { IfOk result
+        (λ found. BeginsWith (ArePortsOf false proto found.0) words.now found.1.now) }
+    ensures skipped { IfOk result
+        (λ found. found.1.now ≡ words.now → LacksFirst (SomePortsOf proto true) words.now) }
     ensures stop { IfErr result (IsStop (SomePortsOf proto) words.now) }
     ensures part { IfErr result (λ stop. (expected_of stop.due).whole ≡ false) }
     ensures later { IfErr result (λ stop. stop.left < length words.now) }

@@ -85,7 +85,8 @@ fn push_match(
     entry: &Entry,
     extended: bool,
 ) -> Result<(), AllocError>
-    ensures { IfOk result (λ _. text.new.items ≡ text.old.items ++ behind_blanks (match_words extended entry.now)) }
+    ensures { IfOk result
+        (λ _. text.new.items ≡ text.old.items ++ behind_blanks (match_words extended entry.now)) }
 {
     if !extended {
         return push_place(alloc, text, entry.src);
@@ -101,7 +102,8 @@ fn push_match(
 
 /// Writes `host` and an address, `any`, or an address and a wildcard.
 fn push_place(alloc: Global, text: &mut Vec<u8>, place: (u32, u32)) -> Result<(), AllocError>
-    ensures { IfOk result (λ _. text.new.items ≡ text.old.items ++ behind_blanks (place_words place)) }
+    ensures { IfOk result
+        (λ _. text.new.items ≡ text.old.items ++ behind_blanks (place_words place)) }
 {
     if place.1 == 0 {
         push_word(text, b"host")?;
@@ -116,7 +118,8 @@ fn push_place(alloc: Global, text: &mut Vec<u8>, place: (u32, u32)) -> Result<()
 
 /// Writes `ip`, or the name or the number of a protocol.
 fn push_proto(alloc: Global, text: &mut Vec<u8>, proto: Option<u8>) -> Result<(), AllocError>
-    ensures { IfOk result (λ _. text.new.items ≡ text.old.items ++ behind_blanks (proto_word proto ∷ [])) }
+    ensures { IfOk result
+        (λ _. text.new.items ≡ text.old.items ++ behind_blanks (proto_word proto ∷ [])) }
 {
     match proto {
         None => push_word(text, b"ip"),
@@ -129,7 +132,8 @@ fn push_proto(alloc: Global, text: &mut Vec<u8>, proto: Option<u8>) -> Result<()
 
 /// Writes a test of ports, or nothing where every port passes.
 fn push_ports(alloc: Global, text: &mut Vec<u8>, ports: Ports) -> Result<(), AllocError>
-    ensures { IfOk result (λ _. text.new.items ≡ text.old.items ++ behind_blanks (ports_words ports)) }
+    ensures { IfOk result
+        (λ _. text.new.items ≡ text.old.items ++ behind_blanks (ports_words ports)) }
 {
     match ports {
         Ports::Any => Ok(()),
@@ -147,7 +151,8 @@ fn push_ports(alloc: Global, text: &mut Vec<u8>, ports: Ports) -> Result<(), All
 
 /// Writes a test of the ports from the first to the last.
 fn push_range(alloc: Global, text: &mut Vec<u8>, low: u16, high: u16) -> Result<(), AllocError>
-    ensures { IfOk result (λ _. text.new.items ≡ text.old.items ++ behind_blanks (range_words low high)) }
+    ensures { IfOk result
+        (λ _. text.new.items ≡ text.old.items ++ behind_blanks (range_words low high)) }
 {
     if low == high {
         push_word(text, b"eq")?;
@@ -164,7 +169,8 @@ fn push_message(
     text: &mut Vec<u8>,
     icmp: Option<(u8, Option<u8>)>,
 ) -> Result<(), AllocError>
-    ensures { IfOk result (λ _. text.new.items ≡ text.old.items ++ behind_blanks (message_words icmp)) }
+    ensures { IfOk result
+        (λ _. text.new.items ≡ text.old.items ++ behind_blanks (message_words icmp)) }
 {
     let Some((kind, code)) = icmp else {
         return Ok(());
@@ -177,7 +183,8 @@ fn push_message(
 }
 
 fn push_established(text: &mut Vec<u8>, established: bool) -> Result<(), AllocError>
-    ensures { IfOk result (λ _. text.new.items ≡ text.old.items ++ behind_blanks (established_words established)) }
+    ensures { IfOk result
+        (λ _. text.new.items ≡ text.old.items ++ behind_blanks (established_words established)) }
 {
     if established {
         push_word(text, b"established")
@@ -188,7 +195,8 @@ fn push_established(text: &mut Vec<u8>, established: bool) -> Result<(), AllocEr
 
 /// Writes the four bytes of an address joined by dots.
 fn push_address(alloc: Global, text: &mut Vec<u8>, address: u32) -> Result<(), AllocError>
-    ensures { IfOk result (λ _. text.new.items ≡ text.old.items ++ behind_blanks (dotted address ∷ [])) }
+    ensures { IfOk result
+        (λ _. text.new.items ≡ text.old.items ++ behind_blanks (dotted address ∷ [])) }
 {
     let address = Dotted(address);
     let word = format!(in alloc; "{address}")?;

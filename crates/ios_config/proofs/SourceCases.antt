@@ -6,7 +6,7 @@ use Rattle.ios_acl.specs.List.{AccessList}
 use Rattle.ios_acl.specs.declared.packet.Packet.{Packet}
 use Rattle.ios_nat.specs.Table.{Table}
 use Rattle.ios_nat.specs.declared.entry.DynamicEntry.{DynamicEntry}
-use Rattle.ios_route.specs.declared.interface.Interface.{Interface}
+use Rattle.ios_route.specs.Interfaces.{Interface}
 use Rattle.ios_config.specs.declared.source_choice.SourceChoice.{SourceChoice}
 use Rattle.ios_config.specs.Sources as specs
 use Rattle.ios_config.specs.Choices.{alone, ranged, shared}

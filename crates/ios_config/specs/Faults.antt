@@ -5,6 +5,6 @@ use Rattle.ios_config.specs.declared.fault.ConfigFault.TheVariants as fault
 use Rattle.ios_config.specs.Reading.{IsRefused}
 
 -- the line is refused; memory may be wanting at any time
-abbrev pub IsFault : List ℕ → ConfigFault → Type 0
-IsFault bytes (fault.At line why) = IsRefused bytes line why
-IsFault bytes fault.NoMemory = Unit {0}
+abbrev pub IsFault : List (List ℕ) → List ℕ → ConfigFault → Type 0
+IsFault known bytes (fault.At line why) = IsRefused known bytes line why
+IsFault known bytes fault.NoMemory = Unit {0}

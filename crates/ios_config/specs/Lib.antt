@@ -1,9 +1,11 @@
 pub mod Request
 pub mod Router
+pub mod Commands
 pub mod Line
+pub mod Whole
 pub mod Reading
+pub mod OwnLines
 pub mod Faults
 pub mod Taking
-pub mod Names
 pub mod Sources
 pub mod Choices

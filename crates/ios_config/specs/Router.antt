@@ -1,44 +1,76 @@
--- The access lists of a configuration while its lines are taken.
-use Rattle.std.specs.Prelude.{◌≢◌, ℕ, ◌+◌, Bool, List, [], ◌∷◌, Option, Some, None}
-use Rattle.std.specs.Bool.{if◌then◌else◌}
-use Rattle.std.specs.List.{AllByRecursion}
-use Rattle.std.specs.Str.{bytes_eq}
-use Rattle.ios_acl.specs.Block.{empty_list}
+-- What the lines of a configuration make of a router.
+use Rattle.std.specs.Prelude.{ℕ, List, [], ◌∷◌, map, length}
 use Rattle.ios_acl.specs.List.{AccessList}
+use Rattle.ios_interface.specs.Block.{interface_of}
+use Rattle.ios_interface.specs.Interfaces.{Interfaces}
+use Rattle.ios_nat.specs.Table.{Table}
+use Rattle.ios_route.specs.ActiveRoutes.{active_routes}
+use Rattle.ios_route.specs.Interfaces.{Interface}
+use Rattle.ios_route.specs.declared.routes.Active.{Active}
+use Rattle.ios_route.specs.declared.static_route.StaticRoute.{StaticRoute}
 
--- the lists, in the order in which they were begun, the name of the list whose block is open, and how many lines were ignored
+-- what indented lines belong to: the block of a list or of an interface of this name, or nothing
+pub data OpenBlock : Type 0 where
+  nothing : OpenBlock
+  list_block : List ℕ → OpenBlock
+  interface_block : List ℕ → OpenBlock
+
+-- what was read so far. Lists and interfaces stand in the order in which they were begun, and routes in that of their lines;
+-- `ignored` is how many lines were ignored
 pub record Draft : Type 0 where
   pub lists : List AccessList
-  pub block : Option (List ℕ)
+  pub interfaces : Interfaces
+  pub routes : List StaticRoute
+  pub nat : Table
+  pub block : OpenBlock
   pub ignored : ℕ
 
-abbrev pub no_lines : Draft
-no_lines = record { lists = []; block = None; ignored = 0 }
+abbrev pub no_entries : Table
+no_entries = record { ports = []; addresses = []; pools = []; dynamic = [] }
 
--- the list of this name, or a new one of this kind
-abbrev pub list_named : List AccessList → List ℕ → Bool → AccessList
-list_named [] name extended = empty_list name extended
-list_named (list ∷ lists) name extended = if bytes_eq name list.name then list else list_named lists name extended
+-- before the first line, where these names of interfaces are known
+abbrev pub no_lines : List (List ℕ) → Draft
+no_lines known = record {
+  lists = [];
+  interfaces = record { known = known; blocks = [] };
+  routes = [];
+  nat = no_entries;
+  block = OpenBlock.nothing;
+  ignored = 0;
+}
 
--- the lists with this one in place of that of its name, or at the end
-abbrev pub with_list : List AccessList → AccessList → List AccessList
-with_list [] new = new ∷ []
-with_list (list ∷ lists) new = if bytes_eq new.name list.name then new ∷ lists else list ∷ with_list lists new
+-- a router. Of its routes those are kept that are active, and how many static ones its lines give
+pub record Router : Type 0 where
+  pub lists : List AccessList
+  pub interfaces : List Interface
+  pub routes : List Active
+  pub static_routes : ℕ
+  pub nat : Table
+  pub ignored : ℕ
 
--- the draft behind a line that makes this of a list, with this block open
-abbrev pub growing : Draft → AccessList → Option (List ℕ) → Draft
-growing draft new block = record { lists = with_list draft.lists new; block = block; ignored = draft.ignored }
+abbrev pub names_of : List Interface → List (List ℕ)
+names_of interfaces = map (λ (interface : Interface). interface.name) interfaces
 
--- the draft behind a line that is ignored
-abbrev pub ignoring : Draft → Draft
-ignoring draft = record { lists = draft.lists; block = None; ignored = draft.ignored + 1 }
+abbrev pub interfaces_of : Draft → List Interface
+interfaces_of draft = map interface_of draft.interfaces.blocks
 
--- the kind of the list of this name, where there is one
-abbrev pub kind_named : List AccessList → List ℕ → Option Bool
-kind_named [] name = None
-kind_named (list ∷ lists) name = if bytes_eq name list.name then Some list.extended else kind_named lists name
+abbrev pub router_of : Draft → Router
+router_of draft = record {
+  lists = draft.lists;
+  interfaces = interfaces_of draft;
+  routes = active_routes (interfaces_of draft) draft.routes;
+  static_routes = length draft.routes;
+  nat = draft.nat;
+  ignored = draft.ignored;
+}
 
--- no two of the lists have one name
-abbrev pub HaveDifferentNames : List AccessList → Type 0
-HaveDifferentNames [] = Unit {0}
-HaveDifferentNames (list ∷ lists) = AllByRecursion (λ (other : AccessList). other.name ≢ list.name) lists × HaveDifferentNames lists
+-- a router of one list
+abbrev pub of_list : AccessList → Router
+of_list list = record {
+  lists = list ∷ [];
+  interfaces = [];
+  routes = [];
+  static_routes = 0;
+  nat = no_entries;
+  ignored = 0;
+}

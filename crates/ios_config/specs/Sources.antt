@@ -14,9 +14,10 @@ use Rattle.ios_nat.specs.Translation.{fixed_source}
 use Rattle.ios_nat.specs.declared.entry.DynamicEntry.{DynamicEntry}
 use Rattle.ios_nat.specs.declared.entry.DynamicFrom.{DynamicFrom}
 use Rattle.ios_nat.specs.declared.entry.DynamicFrom.TheVariants as from
+use Rattle.ios_config.specs.Router.{Router}
 use Rattle.ios_config.specs.declared.source_choice.SourceChoice.{SourceChoice}
 use Rattle.ios_route.specs.ActiveRoutes.{named}
-use Rattle.ios_route.specs.declared.interface.Interface.{Interface}
+use Rattle.ios_route.specs.Interfaces.{Interface}
 use Rattle.ios_route.specs.declared.interface.NatMark.{NatMark}
 use Rattle.ios_route.specs.declared.interface.NatMark.TheVariants as mark
 
@@ -32,7 +33,9 @@ is_outside_mark mark.Plain = false
 
 -- the mark of the interface of this number, which counts even if the interface is shut down; a number of no interface has none
 abbrev pub mark_of : List Interface → ℕ → Option NatMark
-mark_of interfaces number = option_map (λ (interface : Interface). interface.mark) (find (λ (interface : Interface). interface.number == number) interfaces)
+mark_of interfaces number =
+    option_map (λ (interface : Interface). interface.mark)
+    (find (λ (interface : Interface). interface.number == number) interfaces)
 
 abbrev pub is_inside : List Interface → ℕ → Bool
 is_inside interfaces number = option_map_or is_inside_mark (mark_of interfaces number) false
@@ -54,20 +57,26 @@ list_of_name lists name = find (λ (list : AccessList). bytes_eq name list.name)
 
 -- a list that is not defined has no entry, and so permits nothing here
 abbrev pub is_permitted : List AccessList → Packet → List ℕ → Bool
-is_permitted lists packet name = option_map_or (λ (list : AccessList). is_permit (decision list.entries packet).0) (list_of_name lists name) false
+is_permitted lists packet name =
+    option_map_or (λ (list : AccessList). is_permit (decision list.entries packet).0)
+    (list_of_name lists name) false
 
 -- the first dynamic entry that counts
 abbrev pub counting : List AccessList → List DynamicEntry → Packet → Option DynamicEntry
-counting lists dynamics packet = find (λ (dynamic : DynamicEntry). is_permitted lists packet dynamic.list) dynamics
+counting lists dynamics packet =
+    find (λ (dynamic : DynamicEntry). is_permitted lists packet dynamic.list) dynamics
 
 -- the first address of the first interface of this name
 abbrev pub address_of : List Interface → List ℕ → Option ℕ
-address_of interfaces name = option_and_then (λ (interface : Interface). option_map (λ (address : ℕ × ℕ). address.0) (slice_get interface.addresses.items 0)) (named interfaces name)
+address_of interfaces name =
+    option_and_then (λ (interface : Interface). option_map (λ (address : ℕ × ℕ). address.0)
+    (slice_get interface.addresses 0)) (named interfaces name)
 
 -- the first and the last of the global addresses of a dynamic entry, where it has some
 abbrev pub global_range : List Interface → Table → DynamicFrom → Option (ℕ × ℕ)
 global_range interfaces table (from.Pool name) = pool_named table.pools name
-global_range interfaces table (from.Interface name) = option_map (λ (address : ℕ). (address, address)) (address_of interfaces name)
+global_range interfaces table (from.Interface name) =
+    option_map (λ (address : ℕ). (address, address)) (address_of interfaces name)
 
 -- sources of TCP, 6, and of UDP, 17, share an address by their ports
 abbrev pub has_ports : Packet → Bool
@@ -75,13 +84,15 @@ has_ports packet = packet.proto == 6 || packet.proto == 17
 
 -- the first and the last of the ports that a dynamic entry gives
 abbrev pub port_range : Bool → Packet → ℕ × ℕ
-port_range overload packet = if overload && has_ports packet then (1, 65535) else (packet.sport, packet.sport)
+port_range overload packet =
+    if overload && has_ports packet then (1, 65535) else (packet.sport, packet.sport)
 
 abbrev pub IsWithin : ℕ × ℕ → ℕ → Type 0
 IsWithin range n = (range.0 ≤ n) × (n ≤ range.1)
 
 -- what a dynamic entry gives: one of its global addresses, with one of its ports
-pub record IsShared (interfaces : List Interface) (table : Table) (packet : Packet) (dynamic : DynamicEntry) (address port : ℕ) : Type 0 where
+pub record IsShared (interfaces : List Interface) (table : Table) (packet : Packet)
+    (dynamic : DynamicEntry) (address port : ℕ) : Type 0 where
   pub addresses : ℕ × ℕ
   pub are_global : global_range interfaces table dynamic.from ≡ Some addresses
   pub one_of_them : IsWithin addresses address
@@ -95,19 +106,31 @@ abbrev pub fixed : Table → Packet → Option (ℕ × ℕ)
 fixed table packet = fixed_source table packet.proto packet.src packet.sport
 
 -- the source of the packet may become this address and this port
-pub data IsSource (lists : List AccessList) (interfaces : List Interface) (table : Table) (entry exit : ℕ) (packet : Packet) (address port : ℕ) : Type 0 where
+pub data IsSource (lists : List AccessList) (interfaces : List Interface) (table : Table)
+    (entry exit : ℕ) (packet : Packet) (address port : ℕ) : Type 0 where
   -- it stays where the packet does not go from inside to outside
-  stays : goes_out interfaces entry exit ≡ false → (address, port) ≡ own packet → IsSource lists interfaces table entry exit packet address port
+  stays : goes_out interfaces entry exit ≡ false → (address, port) ≡ own packet
+      → IsSource lists interfaces table entry exit packet address port
   -- otherwise it is what a static entry says
-  by_static : goes_out interfaces entry exit ≡ true → fixed table packet ≡ Some (address, port) → IsSource lists interfaces table entry exit packet address port
+  by_static : goes_out interfaces entry exit ≡ true → fixed table packet ≡ Some (address, port)
+      → IsSource lists interfaces table entry exit packet address port
   -- where none is for it, it is what the first dynamic entry that counts gives
-  by_dynamic : (dynamic : DynamicEntry) → goes_out interfaces entry exit ≡ true → fixed table packet ≡ None → counting lists table.dynamic packet ≡ Some dynamic
-      → IsShared interfaces table packet dynamic address port → IsSource lists interfaces table entry exit packet address port
+  by_dynamic : (dynamic : DynamicEntry) → goes_out interfaces entry exit ≡ true
+      → fixed table packet ≡ None → counting lists table.dynamic packet ≡ Some dynamic
+      → IsShared interfaces table packet dynamic address port
+      → IsSource lists interfaces table entry exit packet address port
   -- and where none counts, it stays
-  uncounted : goes_out interfaces entry exit ≡ true → fixed table packet ≡ None → counting lists table.dynamic packet ≡ None
-      → (address, port) ≡ own packet → IsSource lists interfaces table entry exit packet address port
+  uncounted : goes_out interfaces entry exit ≡ true → fixed table packet ≡ None
+      → counting lists table.dynamic packet ≡ None
+      → (address, port) ≡ own packet
+      → IsSource lists interfaces table entry exit packet address port
+
+-- the same of a router
+abbrev pub IsSourceOf : Router → ℕ → ℕ → Packet → ℕ → ℕ → Type 0
+IsSourceOf router = IsSource router.lists router.interfaces router.nat
 
 -- the address and the port lie within the choice
 abbrev pub IsAmong : Option SourceChoice → ℕ → ℕ → Type 0
 IsAmong None address port = ⊥
-IsAmong (Some choice) address port = IsWithin (choice.first, choice.last) address × IsWithin (choice.low, choice.high) port
+IsAmong (Some choice) address port =
+    IsWithin (choice.first, choice.last) address × IsWithin (choice.low, choice.high) port

@@ -1,26 +1,23 @@
-//! Cisco IOS configurations: the access lists that their lines make, and the request that a router judges.
+//! Cisco IOS configurations: the router that their lines make, and the request that it judges.
 //!
-//! `read_config` gives the lists of a file, or the first line that is refused, and why. So far a configuration holds
-//! lines of access lists and nothing else. `NameTable` holds the names of all interfaces, each at its place, and `sources`
-//! says what the source of a packet becomes by address translation. The request of fifteen fields stands here, since all
-//! that speaks of routers speaks of it.
+//! `read_config` gives the router of a file and adds the names of its interfaces to the table of all, or says which line is
+//! refused, and why. `Router::sources` says what the source of a packet becomes by address translation. The request of
+//! fifteen fields stands here, since all that speaks of routers speaks of it.
 //! `session` loads routers with it.
 #![tactic(auto)]
 
+mod command;
 mod draft;
 mod fault;
 mod laws;
-mod lists;
-mod names;
 mod request;
 mod router;
 mod source_choice;
-mod words;
 
-pub use fault::{ConfigFault, ConfigReason};
-pub use laws::written_list;
-pub use names::NameTable;
+pub use fault::ConfigFault;
+pub use ios_names::NameTable;
+pub use laws::{one_config, own_lines, written_list};
 pub use request::Field;
-pub use router::{Router, one_config, read_config};
-pub use source_choice::{SourceChoice, sources};
+pub use router::{Router, read_config};
+pub use source_choice::SourceChoice;
 pub use std::alloc::AllocError as NoMemory;

@@ -1,8 +1,9 @@
 ghost use Rattle.std.specs.Prelude.{◌≡◌, ◌↔◌, ℕ, None, option_copied};
 ghost use Rattle.ios_config.specs.Choices as choices;
 ghost use Rattle.ios_config.specs.Sources as specs;
-ghost use Rattle.ios_config.specs.Sources.{IsAmong, IsSource};
+ghost use Rattle.ios_config.specs.Sources.{IsAmong, IsSource, IsSourceOf};
 
+use crate::router::Router;
 use ios_acl::{Acl, Packet, Verdict};
 use ios_lex::Word;
 use ios_nat::{DynamicEntry, DynamicFrom, NatTable};
@@ -18,9 +19,23 @@ pub struct SourceChoice {
     pub high: u16,
 }
 
-/// What the source of a packet becomes that comes in by the interface of one number and goes out by that of another. None
-/// where the dynamic entry that counts has no address.
-pub fn sources(
+impl Router {
+    /// What the source of a packet becomes that comes in by the interface of one number and goes out by that of another.
+    /// None where the dynamic entry that counts has no address.
+    pub fn sources(&self, entry: u16, exit: u16, packet: &Packet) -> Option<SourceChoice>
+        ensures some { (address port : ℕ) → IsAmong result address port
+            ↔ IsSourceOf self.now entry exit packet.now address port }
+        ensures none { (result ≡ None) ↔ ((address port : ℕ)
+            → IsSourceOf self.now entry exit packet.now address port → ⊥) }
+    {
+        let lists = self.lists.as_slice();
+        let interfaces = self.interfaces.as_slice();
+        sources(lists, interfaces, &self.nat, entry, exit, packet)
+    }
+}
+
+/// The same of these lists, interfaces and entries.
+fn sources(
     lists: &[Acl],
     interfaces: &[Interface],
     nat: &NatTable,

@@ -1,62 +1,21 @@
 -- The line of an address, part by part, and where it stops.
-use Rattle.std.proofs.Common.{◌≡◌, ◌↔◌, ℕ, Bool, true, false, List, [], ◌∷◌, length, codes, refl, arith}
-use Rattle.ios_lex.specs.Address.{IsAddress}
+use Rattle.std.proofs.Common.{◌≡◌, ◌↔◌, ℕ, Bool, true, false, List, [], ◌∷◌, length, codes, refl}
 use Rattle.ios_lex.specs.declared.stop.Due.TheVariants as due
 use Rattle.ios_lex.specs.declared.stop.Stop.{Stop}
-use Rattle.ios_lex.specs.Following.{Begins, IsNumberWord}
-use Rattle.ios_lex.specs.Mask.{IsPrefixMask}
-use Rattle.ios_lex.specs.NextWords.{IsAddressOf, NoName, SomeAddress}
+use Rattle.ios_lex.specs.Following.{Begins}
+use Rattle.ios_lex.specs.NextWords.{IsAddressOf, IsMaskOf, NoMore, NoName, SomeAddress, SomeMask}
 use Rattle.ios_lex.specs.Phrases.{Words, Then}
 use Rattle.ios_lex.specs.Refusal.{begins_with_digit}
-use Rattle.ios_lex.specs.Stops.{BeginsWith, expected_of, LacksFirst, IsStop}
-use Rattle.ios_lex.proofs.AddressParts.{address_is_one}
+use Rattle.ios_lex.specs.Stops.{BeginsWith, expected_of, IsStop}
 use Rattle.ios_lex.proofs.Chains.{then_map}
-use Rattle.ios_lex.proofs.FirstStops.{lacks_word, stop_at_address}
+use Rattle.ios_lex.proofs.FirstStops.{lacks_word, stop_at_end}
+use Rattle.ios_lex.proofs.LineParts.{address_part, some_address, stop_behind_first, stop_in_first, stop_of_same}
+use Rattle.ios_lex.proofs.MaskForms.{mask_part, some_mask, zero_mask}
 use Rattle.ios_lex.proofs.Stopping.{stop_behind}
-use Rattle.ios_lex.proofs.WordForms.{no_number_address, other_no_address, other_no_number, zero_address}
+use Rattle.ios_lex.proofs.WordForms.{other_no_address, other_no_number, zero_address}
 use Rattle.ios_interface.specs.declared.kind.Kind.TheVariants as kinds
-use Rattle.ios_interface.specs.Grammar.{IsMaskOf, IsSecondary, Line}
-use Rattle.ios_interface.specs.Parts.{NoMore, SomeAddressEnd, SomeMask, SomeSecondary}
-use Rattle.ios_interface.proofs.Sequences.{IsPart, address_part, one_word_free, some_address, stop_at_end, stop_at_lax_address, stop_behind_first, stop_in_first, stop_of_same}
-
--- an address stands alone
-alone : (n : ℕ) (word : List ℕ) (more : Words) → IsAddressOf n (word ∷ more) → IsAddress word n
-alone n word more is = let same : word ≡ is.0 = cc (is.1) in rw same is.2
-
-none_left : (n : ℕ) → IsAddressOf n [] → ⊥
-none_left n is = cc (is.1)
-
-first_word : (n : ℕ) (words rest : Words) → BeginsWith (IsAddressOf n) words rest → (word : List ℕ) × (words ≡ word ∷ rest) × IsAddress word n
-first_word n words rest (front, whole, is) = (is.0, (rw is.1 at whole), is.2)
-
-lacks_less : (Part Line : Words → Type 0) (words : Words) → ((x : Words) → Line x → Part x) → LacksFirst Part words → LacksFirst Line words
-lacks_less Part Line words less lacks word more whole begins = lacks word more whole (begins.0, less (word ∷ begins.0) begins.1)
-
--- a mask
-
-mask_part : IsPart SomeMask
-mask_part = record { free = λ b. one_word_free (SomeMask b) (λ x is. (is.1.1.0, is.1.1.1)); more = λ x is. (is.0, (is.1.0, is.1.1, λ strict. cc strict)) }
-
-zero_mask : (b : Bool) → SomeMask b (codes "0.0.0.0" ∷ [])
-zero_mask b = (0, (0, (codes "0.0.0.0", refl, zero_address), λ strict. record { few = omega arith; value = refl }))
-
-no_number_mask : (word : List ℕ) → IsNumberWord word → Begins (SomeMask false) (word ∷ []) → ⊥
-no_number_mask word number begins = no_number_address word begins.1.1.0 number (alone begins.1.1.0 word begins.0 begins.1.1.1)
-
-pub mask_stop : (words : Words) (stop : Stop) → stop.left ≡ length words → stop.due ≡ due.Address → ((b : Bool) → LacksFirst (SomeAddress b) words) → IsStop NoName SomeMask words stop
-mask_stop words stop left is lacks =
-    stop_at_address SomeMask words stop left is (codes "0.0.0.0", (0, zero_address), ([], zero_mask false))
-    (λ h. no_number_mask h.0 h.1 h.2) (λ h. none_left h.1.0 h.1.1)
-    (λ b. lacks_less (SomeAddress b) (SomeMask b) words (λ x is. (is.1.0, is.1.1)) (lacks b))
-
-pub no_mask_stop : (mask : ℕ) (words rest : Words) (stop : Stop) → BeginsWith (IsAddressOf mask) words rest → ((ones : ℕ) → IsPrefixMask mask ones → ⊥) → stop.left ≡ length words → stop.due ≡ due.Mask
-    → IsStop NoName SomeMask words stop
-no_mask_stop mask words rest stop begins none left is =
-    let word = first_word mask words rest begins in
-    stop_at_lax_address SomeMask words rest word.0 stop word.1 left is (codes "0.0.0.0", (0, zero_address), ([], zero_mask false))
-    (λ h. no_number_mask h.0 h.1 h.2) (λ h. none_left h.1.0 h.1.1)
-    (λ h. let same = address_is_one word.0 h.1.1.0 mask (alone h.1.1.0 word.0 h.0 h.1.1.1) word.2 in none h.1.0 (rw same at (h.1.1.2 refl)))
-    ([], (0, (mask, (word.0, refl, word.2), λ strict. cc strict)))
+use Rattle.ios_interface.specs.Grammar.{IsSecondary, Line}
+use Rattle.ios_interface.specs.Parts.{SomeAddressEnd, SomeSecondary}
 
 -- whether an address is a secondary one
 
@@ -131,4 +90,4 @@ pub stop_in_mask : (words : Words) (stop : Stop) → (expected_of stop.due).whol
 stop_in_mask words stop part stops = stop_in_first SomeMask SomeSecondary words [] stop mask_part some_secondary part stops
 
 pub stop_behind_mask : (len : ℕ) (words rest : Words) (stop : Stop) → BeginsWith (IsMaskOf false len) words rest → IsStop NoName SomeSecondary rest stop → IsStop NoName SomeAddressEnd words stop
-stop_behind_mask len words rest stop (front, whole, is) stops = stop_behind_first SomeMask SomeSecondary words rest stop mask_part (front, whole, (len, is)) stops
+stop_behind_mask len words rest stop begins stops = stop_behind_first SomeMask SomeSecondary words rest stop mask_part (some_mask len words rest begins) stops

@@ -3,19 +3,20 @@ use Rattle.std.proofs.Common.{◌≡◌, ◌⊎◌, inl, inr, ◌↔◌, ℕ, Bo
 use Rattle.ios_lex.specs.declared.stop.Due.TheVariants as due
 use Rattle.ios_lex.specs.declared.stop.Stop.{Stop}
 use Rattle.ios_lex.specs.Following.{Begins}
-use Rattle.ios_lex.specs.NextWords.{IsNameOf, NoName}
+use Rattle.ios_lex.specs.NextWords.{IsNameOf, NoMore, NoName}
 use Rattle.ios_lex.specs.Phrases.{Words, Then}
 use Rattle.ios_lex.specs.Refusal.{begins_with_digit}
 use Rattle.ios_lex.specs.Stops.{BeginsWith, expected_of, LacksFirst, IsStop}
 use Rattle.ios_lex.proofs.Chains.{then_map}
-use Rattle.ios_lex.proofs.FirstStops.{lacks_word}
+use Rattle.ios_lex.proofs.FirstStops.{lacks_word, stop_at_keyword}
+use Rattle.ios_lex.proofs.LineParts.{IsPart, name_part, some_name, stop_behind_first, stop_behind_last, stop_in_first, stop_of_same}
+use Rattle.ios_lex.proofs.OneCut.{single_word_prefix_free}
 use Rattle.ios_lex.proofs.WordForms.{other_no_address, other_no_number}
 use Rattle.ios_interface.specs.declared.kind.Direction.{Direction}
 use Rattle.ios_interface.specs.declared.kind.Direction.TheVariants as directions
 use Rattle.ios_interface.specs.declared.kind.Kind.TheVariants as kinds
 use Rattle.ios_interface.specs.Grammar.{IsDirection, Line}
-use Rattle.ios_interface.specs.Parts.{NoMore, SomeDirection, SomeListName}
-use Rattle.ios_interface.proofs.Sequences.{IsPart, name_part, one_word_free, some_name, stop_at_keyword, stop_behind_first, stop_behind_last, stop_in_first, stop_of_same}
+use Rattle.ios_interface.specs.Parts.{SomeDirection, SomeListName}
 
 -- the direction
 
@@ -24,7 +25,7 @@ direction_of_word words directions.In is = (codes "in", is)
 direction_of_word words directions.Out is = (codes "out", is)
 
 direction_part : IsPart SomeDirection
-direction_part = record { free = λ b. one_word_free (SomeDirection b) (λ x is. direction_of_word x is.0 is.1); more = λ x is. is }
+direction_part = record { free = λ b. single_word_prefix_free (SomeDirection b) (λ x is. direction_of_word x is.0 is.1); more = λ x is. is }
 
 some_direction : (b : Bool) → SomeDirection b (codes "in" ∷ [])
 some_direction b = (directions.In, refl)

@@ -1,9 +1,11 @@
-pub mod Sequences
 pub mod AddressLines
 pub mod GroupLines
 pub mod LineFaults
-pub mod JoinedWords
-pub mod LineOpenings
 pub mod OneOpening
 pub mod OneReading
 pub mod OneLine
+pub mod NamedBlocks
+pub mod InterfaceNumbers
+pub mod OpenedBlocks
+pub mod InterfaceLines
+pub mod OneHeading

@@ -10,11 +10,12 @@ use Rattle.ios_interface.specs.Block.{Block}
 use Rattle.ios_interface.specs.declared.kind.Kind.{Kind}
 use Rattle.ios_interface.specs.declared.kind.Kind.TheVariants as kinds
 use Rattle.ios_interface.specs.Grammar.{Line, opening_words}
-use Rattle.ios_interface.specs.Reading.{Fails, IsIgnored, IsRefused, IsUnmodelled, Makes, Takes, joined, with_address, with_list, with_setting}
+use Rattle.ios_lex.specs.Openings.{joined}
+use Rattle.ios_interface.specs.Reading.{Fails, IsIgnored, IsRefused, IsUnmodelled, Makes, Takes, with_address, with_list, with_setting}
 use Rattle.ios_interface.specs.Refusal.{reason_at}
 use Rattle.ios_interface.proofs.AddressLines.{some_address_line}
 use Rattle.ios_interface.proofs.GroupLines.{some_group_line}
-use Rattle.ios_interface.proofs.OneOpening.{no_modelled_opening, one_opening, one_unmodelled}
+use Rattle.ios_interface.proofs.OneOpening.{no_modelled_opening, one_line_opening, one_unmodelled}
 use Rattle.ios_interface.proofs.OneReading.{made_not_refused, one_block, one_reason}
 
 pub taken_not_ignored : (block new : Block) (words : Words) → Takes block words new → IsIgnored words → ⊥
@@ -23,7 +24,7 @@ taken_not_ignored block new words x ignored = ignored.unopened x.kind x.rest x.o
 pub taken_not_refused : (block new : Block) (words : Words) (why : IosReason) → Takes block words new → IsRefused words why → ⊥
 taken_not_refused block new words why x (IsRefused.unmodelled opening is) = no_modelled_opening block new x.kind words x.rest opening x.opened x.makes is
 taken_not_refused block new words why x (IsRefused.rest kind rest why' harmless opened fails) =
-    let one = one_opening x.kind kind x.rest rest (sym x.opened ∙ opened) in
+    let one = one_line_opening x.kind kind x.rest rest (sym x.opened ∙ opened) in
     made_not_refused block x.rest new x.kind why x.makes (rw (one.kind_same, one.rest_same) fails)
 
 pub ignored_not_refused : (words : Words) (why : IosReason) → IsIgnored words → IsRefused words why → ⊥
@@ -32,7 +33,7 @@ ignored_not_refused words why ignored (IsRefused.rest kind rest why' harmless op
 
 pub blocks_are_one : (block new other : Block) (words : Words) → Takes block words new → Takes block words other → new ≡ other
 blocks_are_one block new other words x y =
-    let one = one_opening x.kind y.kind x.rest y.rest (sym x.opened ∙ y.opened) in
+    let one = one_line_opening x.kind y.kind x.rest y.rest (sym x.opened ∙ y.opened) in
     one_block block x.rest new other x.kind x.makes (rw (one.kind_same, one.rest_same) y.makes)
 
 pub reasons_are_one : (words : Words) (why other : IosReason) → IsRefused words why → IsRefused words other → why ≡ other
@@ -40,7 +41,7 @@ reasons_are_one words why other (IsRefused.unmodelled opening is) (IsRefused.unm
 reasons_are_one words why other (IsRefused.unmodelled opening is) (IsRefused.rest kind rest w harmless opened fails) = absurd (harmless opening is)
 reasons_are_one words why other (IsRefused.rest kind rest w harmless opened fails) (IsRefused.unmodelled opening is) = absurd (harmless opening is)
 reasons_are_one words why other (IsRefused.rest kind rest w harmless opened fails) (IsRefused.rest kind' rest' w' harmless' opened' fails') =
-    let one = one_opening kind kind' rest rest' (sym opened ∙ opened') in
+    let one = one_line_opening kind kind' rest rest' (sym opened ∙ opened') in
     one_reason kind rest why other fails (rw (one.kind_same, one.rest_same) fails')
 
 -- a line of each kind begins

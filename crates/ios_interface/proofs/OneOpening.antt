@@ -1,6 +1,5 @@
 -- A line opens in one way.
-use Rattle.std.proofs.Common.{◌≡◌, ◌&&◌, ℕ, Bool, true, false, List, [], ◌∷◌, ◌++◌, Option, Some, None, Contains, codes, refl, sym, ap, ◌∙◌}
-use Rattle.std.specs.Bool.{if◌then◌else◌}
+use Rattle.std.proofs.Common.{◌≡◌, ℕ, false, List, [], ◌∷◌, ◌++◌, Some, None, Contains, codes, refl, sym, ap, ◌∙◌}
 use Rattle.std.specs.List.{AllByRecursion}
 use Rattle.std.specs.Str.{bytes_eq}
 use Rattle.std.proofs.lemmas.Bool.{false_from_ne_true}
@@ -9,6 +8,7 @@ use Rattle.std.proofs.lemmas.Slice.Eq.{bytes_eq-Decides}
 use Rattle.ios_lex.specs.Address.{IsAddress}
 use Rattle.ios_lex.specs.Phrases.{Words}
 use Rattle.ios_lex.specs.Refusal.{begins_with_digit}
+use Rattle.ios_lex.proofs.OneOpening.{IsFound, SameOpening, first_kind, one_kind, one_opening}
 use Rattle.ios_lex.proofs.WordForms.{other_no_address}
 use Rattle.ios_interface.specs.Block.{Block}
 use Rattle.ios_interface.specs.declared.kind.Kind.{Kind}
@@ -17,20 +17,6 @@ use Rattle.ios_interface.specs.declared.kind.Setting.{Setting}
 use Rattle.ios_interface.specs.declared.kind.Setting.TheVariants as settings
 use Rattle.ios_interface.specs.Grammar.{opening_words, unmodelled_openings}
 use Rattle.ios_interface.specs.Reading.{IsUnmodelled, Makes}
-
--- the words begin with these
-abbrev begins_so : Words → Words → Bool
-begins_so words [] = true
-begins_so [] (other ∷ others) = false
-begins_so (word ∷ words) (other ∷ others) = bytes_eq word other && begins_so words others
-
-abbrev first_kind : List Kind → Words → Option Kind
-first_kind [] words = None
-first_kind (kind ∷ kinds) words = if begins_so words (opening_words kind) then Some kind else first_kind kinds words
-
-abbrev first_opening : List Words → Words → Option Words
-first_opening [] words = None
-first_opening (opening ∷ openings) words = if begins_so words opening then Some opening else first_opening openings words
 
 abbrev all_kinds : List Kind
 all_kinds =
@@ -43,7 +29,7 @@ all_kinds =
     ∷ kinds.Setting settings.NoShutdown
     ∷ []
 
-kind_of_line : (kind : Kind) (rest : Words) → first_kind all_kinds (opening_words kind ++ rest) ≡ Some kind
+kind_of_line : (kind : Kind) → IsFound opening_words all_kinds kind
 kind_of_line kinds.Address rest = refl
 kind_of_line kinds.AccessGroup rest = refl
 kind_of_line (kinds.Setting settings.NoAddress) rest = refl
@@ -52,36 +38,27 @@ kind_of_line (kinds.Setting settings.Outside) rest = refl
 kind_of_line (kinds.Setting settings.Shutdown) rest = refl
 kind_of_line (kinds.Setting settings.NoShutdown) rest = refl
 
-same_behind : (front rest other : Words) → front ++ rest ≡ front ++ other → rest ≡ other
-same_behind [] rest other same = same
-same_behind (word ∷ front) rest other same = same_behind front rest other (cc same)
-
-pub record SameOpening (kind other : Kind) (rest rest' : Words) : Type 0 where
-  pub kind_same : kind ≡ other
-  pub rest_same : rest ≡ rest'
-
-pub one_opening : (kind other : Kind) (rest rest' : Words) → opening_words kind ++ rest ≡ opening_words other ++ rest' → SameOpening kind other rest rest'
-one_opening kind other rest rest' same =
-    let found : Some kind ≡ Some other = sym (kind_of_line kind rest) ∙ ap (first_kind all_kinds) same ∙ kind_of_line other rest' in
-    let one : kind ≡ other = cc found in
-    record { kind_same = one; rest_same = same_behind (opening_words kind) rest rest' (rw (← one) at same) }
+pub one_line_opening : (kind other : Kind) (rest rest' : Words) → opening_words kind ++ rest ≡ opening_words other ++ rest' → SameOpening kind other rest rest'
+one_line_opening = one_opening opening_words all_kinds kind_of_line
 
 -- lines that are not modelled
 
-abbrev IsFound : Words → Type 0
-IsFound opening = (rest : Words) → first_opening unmodelled_openings (opening ++ rest) ≡ Some opening
+abbrev itself : Words → Words
+itself opening = opening
 
-openings_of_lines : AllByRecursion IsFound unmodelled_openings
+abbrev IsFirst : Words → Type 0
+IsFirst opening = IsFound itself unmodelled_openings opening
+
+openings_of_lines : AllByRecursion IsFirst unmodelled_openings
 openings_of_lines =
     (λ rest. refl, (λ rest. refl, (λ rest. refl, (λ rest. refl, (λ rest. refl, (λ rest. refl, (λ rest. refl, (λ rest. refl, (λ rest. refl, (λ rest. refl, (λ rest. refl, tt)))))))))))
 
-opening_of_line : (opening : Words) → Contains unmodelled_openings opening → (rest : Words) → first_opening unmodelled_openings (opening ++ rest) ≡ Some opening
-opening_of_line opening has = All-contains IsFound unmodelled_openings opening (All-from_recursion IsFound unmodelled_openings openings_of_lines) has
+opening_of_line : (opening : Words) → Contains unmodelled_openings opening → IsFirst opening
+opening_of_line opening has = All-contains IsFirst unmodelled_openings opening (All-from_recursion IsFirst unmodelled_openings openings_of_lines) has
 
 pub one_unmodelled : (words opening other : Words) → IsUnmodelled words opening → IsUnmodelled words other → opening ≡ other
 one_unmodelled words opening other is is' =
-    let found : Some opening ≡ Some other = sym (opening_of_line opening is.0 is.1) ∙ ap (first_opening unmodelled_openings) (sym is.2 ∙ is'.2) ∙ opening_of_line other is'.0 is'.1 in
-    cc found
+    one_kind itself unmodelled_openings opening other is.1 is'.1 (opening_of_line opening is.0) (opening_of_line other is'.0) (sym is.2 ∙ is'.2)
 
 -- lines that are read
 
@@ -89,18 +66,18 @@ word_differs : (word other : List ℕ) (n : ℕ) → begins_with_digit other ≡
 word_differs word other n letter address =
     false_from_ne_true (bytes_eq word other) (λ same. let is = (bytes_eq-Decides word other).0 same in other_no_address other n letter (rw is at address))
 
-no_opening_of_address : (word : List ℕ) (n : ℕ) (rest : Words) → IsAddress word n → first_opening unmodelled_openings (codes "ip" ∷ codes "address" ∷ word ∷ rest) ≡ None
+no_opening_of_address : (word : List ℕ) (n : ℕ) (rest : Words) → IsAddress word n → first_kind itself unmodelled_openings (codes "ip" ∷ codes "address" ∷ word ∷ rest) ≡ None
 no_opening_of_address word n rest address =
     rw (word_differs word (codes "dhcp") n refl address, word_differs word (codes "negotiated") n refl address) refl
 
-no_opening_of_setting : (setting : Setting) (rest : Words) → first_opening unmodelled_openings (opening_words (kinds.Setting setting) ++ rest) ≡ None
+no_opening_of_setting : (setting : Setting) (rest : Words) → first_kind itself unmodelled_openings (opening_words (kinds.Setting setting) ++ rest) ≡ None
 no_opening_of_setting settings.NoAddress rest = refl
 no_opening_of_setting settings.Inside rest = refl
 no_opening_of_setting settings.Outside rest = refl
 no_opening_of_setting settings.Shutdown rest = refl
 no_opening_of_setting settings.NoShutdown rest = refl
 
-no_opening : (block new : Block) (kind : Kind) (rest : Words) → Makes block rest new kind → first_opening unmodelled_openings (opening_words kind ++ rest) ≡ None
+no_opening : (block new : Block) (kind : Kind) (rest : Words) → Makes block rest new kind → first_kind itself unmodelled_openings (opening_words kind ++ rest) ≡ None
 no_opening block new kind rest (Makes.address address secondary is made) =
     let word = is.first.0 in
     let whole : rest ≡ word ∷ is.back = is.whole ∙ ap (λ front. front ++ is.back) is.first.1 in
@@ -110,5 +87,5 @@ no_opening block new kind rest (Makes.setting setting none made) = no_opening_of
 
 pub no_modelled_opening : (block new : Block) (kind : Kind) (words rest opening : Words) → words ≡ opening_words kind ++ rest → Makes block rest new kind → IsUnmodelled words opening → ⊥
 no_modelled_opening block new kind words rest opening opened makes is =
-    let found : None ≡ Some opening = sym (no_opening block new kind rest makes) ∙ ap (first_opening unmodelled_openings) (sym opened ∙ is.2) ∙ opening_of_line opening is.0 is.1 in
+    let found : None ≡ Some opening = sym (no_opening block new kind rest makes) ∙ ap (first_kind itself unmodelled_openings) (sym opened ∙ is.2) ∙ opening_of_line opening is.0 is.1 in
     cc found

@@ -1,51 +1,17 @@
 -- The words behind the opening of a line say one thing, or are refused for one reason.
-use Rattle.std.proofs.Common.{◌≡◌, ◌⊎◌, inl, inr, ℕ, ◌-◌, ◌<◌, Bool, false, List, [], ◌∷◌, ◌++◌, codes, refl, sym, ap, ◌∙◌, arith}
-use Rattle.std.proofs.lemmas.Bool.{cases_order}
-use Rattle.std.proofs.lemmas.List.{append-nil}
-use Rattle.std.proofs.lemmas.Nat.{pow_below}
+use Rattle.std.proofs.Common.{◌≡◌, ℕ, Bool, false, List, codes, refl, sym, ◌∙◌}
 use Rattle.ios_lex.specs.declared.reason.IosReason.{IosReason}
-use Rattle.ios_lex.specs.Following.{Begins, Expected}
-use Rattle.ios_lex.specs.Mask.{IsPrefixMask}
-use Rattle.ios_lex.specs.NextWords.{IsAddressOf}
+use Rattle.ios_lex.specs.Following.{Expected}
 use Rattle.ios_lex.specs.Phrases.{Words}
-use Rattle.ios_lex.proofs.AddressParts.{address_is_one}
-use Rattle.ios_lex.proofs.OneStop.{no_begins_behind_stop, stop_is_one}
+use Rattle.ios_lex.proofs.OneStop.{begins_whole, no_begins_behind_stop, stop_is_one}
+use Rattle.ios_lex.proofs.OneWord.{one_address, one_mask, one_word}
 use Rattle.ios_interface.specs.Block.{Block}
 use Rattle.ios_interface.specs.declared.kind.Direction.{Direction}
 use Rattle.ios_interface.specs.declared.kind.Direction.TheVariants as directions
 use Rattle.ios_interface.specs.declared.kind.Kind.{Kind}
-use Rattle.ios_interface.specs.Grammar.{IsAccessGroup, IsAddressLine, IsDirection, IsMaskOf, IsSecondary, Line}
+use Rattle.ios_interface.specs.Grammar.{IsAccessGroup, IsAddressLine, IsDirection, IsSecondary, Line}
 use Rattle.ios_interface.specs.Reading.{Fails, Makes, with_address, with_list}
 use Rattle.ios_interface.specs.Refusal.{reason_at}
-
--- two words that stand alone before what ends the same words are one, and what stands behind them is
-one_word : (front back front' back' : Words) (word word' : List ℕ) → front ≡ word ∷ [] → front' ≡ word' ∷ [] → front ++ back ≡ front' ++ back' → (word ≡ word') × (back ≡ back')
-one_word front back front' back' word word' one one' same =
-    let longer : (word ∷ []) ++ back ≡ (word' ∷ []) ++ back' = sym (ap (λ f. f ++ back) one) ∙ same ∙ ap (λ f. f ++ back') one' in
-    (cc longer, cc longer)
-
-one_address : (m n : ℕ) (front back front' back' : Words) → IsAddressOf m front → IsAddressOf n front' → front ++ back ≡ front' ++ back' → (m ≡ n) × (back ≡ back')
-one_address m n front back front' back' is is' same =
-    let word = one_word front back front' back' is.0 is'.0 is.1 is'.1 same in
-    (address_is_one is.0 m n is.2 (rw word.0 is'.2), word.1)
-
--- a mask has one length
-
-one_length : (mask m n : ℕ) → IsPrefixMask mask m → IsPrefixMask mask n → m ≡ n
-one_length mask m n p q = by (cases_order m n)
-  where
-    no_less : (low high : ℕ) → IsPrefixMask mask low → IsPrefixMask mask high → low < high → ⊥
-    no_less low high p q less = omega (arith, pow_below (32 - high) (32 - low) (omega (arith, p.few, q.few, less)), p.value, q.value)
-
-    by : (m ≡ n) ⊎ ((m < n) ⊎ (n < m)) → m ≡ n
-    by (inl same) = same
-    by (inr (inl less)) = absurd (no_less m n p q less)
-    by (inr (inr more)) = absurd (no_less n m q p more)
-
-one_mask : (m n : ℕ) (front back front' back' : Words) → IsMaskOf false m front → IsMaskOf false n front' → front ++ back ≡ front' ++ back' → (m ≡ n) × (back ≡ back')
-one_mask m n front back front' back' is is' same =
-    let mask = one_address is.0 is'.0 front back front' back' is.1 is'.1 same in
-    (one_length is.0 m n (is.2 refl) (rw mask.0 (is'.2 refl)), mask.1)
 
 one_secondary : (secondary other : Bool) (words words' : Words) → words ≡ words' → IsSecondary secondary words → IsSecondary other words' → secondary ≡ other
 one_secondary secondary other words words' same (IsSecondary.none whole is) (IsSecondary.none whole' is') = is ∙ sym is'
@@ -88,11 +54,8 @@ makes_line block rest new kind (Makes.address a s is made) = (a, s, is)
 makes_line block rest new kind (Makes.group n d is made) = (n, d, is)
 makes_line block rest new kind (Makes.setting s none made) = none
 
-line_begins : (kind : Kind) (rest : Words) → Line kind false rest → Begins (Line kind false) rest
-line_begins kind rest line = ([], rw (append-nil rest) line)
-
 line_not_refused : (kind : Kind) (rest : Words) (why : IosReason) → Line kind false rest → Fails kind rest why → ⊥
-line_not_refused kind rest why line (Fails.stop f m w d b whole stops) = no_begins_behind_stop (Line kind) f rest m w d b stops whole (line_begins kind rest line)
+line_not_refused kind rest why line (Fails.stop f m w d b whole stops) = no_begins_behind_stop (Line kind) f rest m w d b stops whole (begins_whole (Line kind false) rest line)
 line_not_refused kind rest why line (Fails.short begins ends) = ends line
 
 pub made_not_refused : (block : Block) (rest : Words) (new : Block) (kind : Kind) (why : IosReason) → Makes block rest new kind → Fails kind rest why → ⊥

@@ -1,8 +1,8 @@
 -- What the lines of a block say of an interface (Cisco IOS command references, `interface`).
-use Rattle.std.specs.Prelude.{◌≡◌, ℕ, ◌++◌, Bool, false, List, [], Option, None}
+use Rattle.std.specs.Prelude.{ℕ, ◌++◌, Bool, false, List, [], Option, None}
 use Rattle.std.specs.List.{AllByRecursion}
 use Rattle.std.specs.Option.{option_to_list}
-use Rattle.ios_route.specs.declared.interface.Interface.{Interface}
+use Rattle.ios_route.specs.Interfaces.{Interface}
 use Rattle.ios_route.specs.declared.interface.NatMark.{NatMark}
 use Rattle.ios_route.specs.declared.interface.NatMark.TheVariants as marks
 use Rattle.ios_route.specs.ActiveRoutes.{IsLength}
@@ -39,12 +39,14 @@ addresses block = option_to_list block.plain ++ block.secondary
 abbrev pub HaveLengths : List (ℕ × ℕ) → Type 0
 HaveLengths all = AllByRecursion (λ (address : ℕ × ℕ). IsLength address.1) all
 
--- the interface is as the block says
-pub record IsOf (block : Block) (interface : Interface) : Type 0 where
-  pub name : interface.name ≡ block.name
-  pub number : interface.number ≡ block.number
-  pub addresses : interface.addresses.items ≡ addresses block
-  pub list_in : interface.list_in ≡ block.list_in
-  pub list_out : interface.list_out ≡ block.list_out
-  pub mark : interface.mark ≡ block.mark
-  pub shut : interface.shut ≡ block.shut
+-- the interface that the block says
+abbrev pub interface_of : Block → Interface
+interface_of block = record {
+  name = block.name;
+  number = block.number;
+  addresses = addresses block;
+  list_in = block.list_in;
+  list_out = block.list_out;
+  mark = block.mark;
+  shut = block.shut;
+}

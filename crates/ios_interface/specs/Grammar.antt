@@ -1,8 +1,7 @@
 -- What the words of a line of the block of an interface spell (Cisco IOS command references, `ip address`,
 -- `ip access-group`, `ip nat` and `shutdown`). Where a line is lax, every address is a mask, and every word a name.
 use Rattle.std.specs.Prelude.{◌≡◌, ℕ, Bool, true, false, List, [], ◌∷◌, codes}
-use Rattle.ios_lex.specs.Mask.{IsPrefixMask}
-use Rattle.ios_lex.specs.NextWords.{IsAddressOf, IsNameOf}
+use Rattle.ios_lex.specs.NextWords.{IsAddressOf, IsMaskOf, IsNameOf}
 use Rattle.ios_lex.specs.Phrases.{Words, Then}
 use Rattle.ios_interface.specs.declared.kind.Direction.{Direction}
 use Rattle.ios_interface.specs.declared.kind.Direction.TheVariants as directions
@@ -40,17 +39,14 @@ unmodelled_openings =
     (codes "ip" ∷ codes "nat" ∷ codes "enable" ∷ []) ∷
     []
 
--- a mask of so many ones
-abbrev pub IsMaskOf : Bool → ℕ → Words → Type 0
-IsMaskOf lax len words = (mask : ℕ) × IsAddressOf mask words × (lax ≡ false → IsPrefixMask mask len)
-
 -- whether an address is a secondary one
 pub data IsSecondary (secondary : Bool) (words : Words) : Type 0 where
   none : words ≡ [] → secondary ≡ false → IsSecondary secondary words
   some : words ≡ codes "secondary" ∷ [] → secondary ≡ true → IsSecondary secondary words
 
 abbrev pub IsAddressLine : Bool → ℕ × ℕ → Bool → Words → Type 0
-IsAddressLine lax address secondary = Then (IsAddressOf address.0) (Then (IsMaskOf lax address.1) (IsSecondary secondary))
+IsAddressLine lax address secondary =
+    Then (IsAddressOf address.0) (Then (IsMaskOf lax address.1) (IsSecondary secondary))
 
 abbrev pub direction_word : Direction → List ℕ
 direction_word directions.In = codes "in"
@@ -64,6 +60,8 @@ IsAccessGroup lax name direction = Then (IsNameOf [] lax name) (IsDirection dire
 
 -- what may stand behind the opening of a line of a kind
 abbrev pub Line : Kind → Bool → Words → Type 0
-Line kinds.Address lax words = (address : ℕ × ℕ) × (secondary : Bool) × IsAddressLine lax address secondary words
-Line kinds.AccessGroup lax words = (name : List ℕ) × (direction : Direction) × IsAccessGroup lax name direction words
+Line kinds.Address lax words =
+    (address : ℕ × ℕ) × (secondary : Bool) × IsAddressLine lax address secondary words
+Line kinds.AccessGroup lax words =
+    (name : List ℕ) × (direction : Direction) × IsAccessGroup lax name direction words
 Line (kinds.Setting setting) lax words = words ≡ []

@@ -4,3 +4,6 @@ pub mod Refusal
 pub mod Reading
 pub mod Faults
 pub mod Parts
+pub mod Headings
+pub mod Interfaces
+pub mod Kept

@@ -1,15 +1,15 @@
 -- What the words of one more line make of a block, which lines are ignored, and why one is refused.
-use Rattle.std.specs.Prelude.{◌≡◌, ℕ, Bool, true, false, List, [], ◌∷◌, ◌++◌, Some, None, Contains, codes}
-use Rattle.std.specs.List.{join_by}
+use Rattle.std.specs.Prelude.{◌≡◌, ℕ, Bool, true, false, List, [], ◌∷◌, ◌++◌, Some, None}
 use Rattle.ios_lex.specs.declared.reason.IosReason.{IosReason}
 use Rattle.ios_lex.specs.declared.reason.IosReason.TheVariants as reason
 use Rattle.ios_lex.specs.Following.{Begins, Expected, StopsAt}
 use Rattle.ios_lex.specs.NextWords.{NoName}
+use Rattle.ios_lex.specs.Openings.{BeginsAmong, joined}
 use Rattle.ios_lex.specs.Phrases.{Words}
 use Rattle.ios_route.specs.declared.interface.NatMark.TheVariants as marks
 use Rattle.ios_interface.specs.Block.{Block}
-use Rattle.ios_interface.specs.declared.fault.Taken.{Taken}
-use Rattle.ios_interface.specs.declared.fault.Taken.TheVariants as taken
+use Rattle.ios_lex.specs.declared.taken.Taken.{Taken}
+use Rattle.ios_lex.specs.declared.taken.Taken.TheVariants as taken
 use Rattle.ios_interface.specs.declared.kind.Direction.{Direction}
 use Rattle.ios_interface.specs.declared.kind.Direction.TheVariants as directions
 use Rattle.ios_interface.specs.declared.kind.Kind.{Kind}
@@ -37,9 +37,12 @@ with_setting block settings.NoShutdown = record block { shut = false }
 
 -- what the rest of a line of a kind makes of a block
 pub data Makes (block : Block) (rest : Words) (new : Block) : Kind → Type 0 where
-  address : (address : ℕ × ℕ) (secondary : Bool) → IsAddressLine false address secondary rest → new ≡ with_address block address secondary → Makes block rest new kinds.Address
-  group : (name : List ℕ) (direction : Direction) → IsAccessGroup false name direction rest → new ≡ with_list block name direction → Makes block rest new kinds.AccessGroup
-  setting : (setting : Setting) → rest ≡ [] → new ≡ with_setting block setting → Makes block rest new (kinds.Setting setting)
+  address : (address : ℕ × ℕ) (secondary : Bool) → IsAddressLine false address secondary rest
+      → new ≡ with_address block address secondary → Makes block rest new kinds.Address
+  group : (name : List ℕ) (direction : Direction) → IsAccessGroup false name direction rest
+      → new ≡ with_list block name direction → Makes block rest new kinds.AccessGroup
+  setting : (setting : Setting) → rest ≡ [] → new ≡ with_setting block setting
+      → Makes block rest new (kinds.Setting setting)
 
 -- the line makes the block the new one
 pub record Takes (block : Block) (words : Words) (new : Block) : Type 0 where
@@ -50,7 +53,7 @@ pub record Takes (block : Block) (words : Words) (new : Block) : Type 0 where
 
 -- the line begins with these words, and is not modelled
 abbrev pub IsUnmodelled : Words → Words → Type 0
-IsUnmodelled words opening = Contains unmodelled_openings opening × (rest : Words) × (words ≡ opening ++ rest)
+IsUnmodelled = BeginsAmong unmodelled_openings
 
 -- the line begins as none that is modelled, and as none that changes forwarding
 pub record IsIgnored (words : Words) : Type 0 where
@@ -62,20 +65,20 @@ abbrev pub Reads : Block → Words → Block → Taken → Type 0
 Reads block words new taken.Modelled = Takes block words new
 Reads block words new taken.Ignored = IsIgnored words × (new ≡ block)
 
--- words with one blank between each two
-abbrev pub joined : Words → List ℕ
-joined words = join_by (λ (word : List ℕ). word) (codes " ") words
-
 -- why the rest of a line of a kind is refused
 pub data Fails (kind : Kind) (rest : Words) : IosReason → Type 0 where
   -- it goes wrong at a word
-  stop : (front more : Words) (word : List ℕ) (expected : Expected) (over : Bool) → rest ≡ front ++ word ∷ more → StopsAt NoName (Line kind) front word expected over
+  stop : (front more : Words) (word : List ℕ) (expected : Expected) (over : Bool)
+      → rest ≡ front ++ word ∷ more → StopsAt NoName (Line kind) front word expected over
       → Fails kind rest (reason_at kind expected over word)
   -- it ends too early
-  short : Begins (Line kind false) rest → (Line kind false rest → ⊥) → Fails kind rest reason.BadEntry
+  short : Begins (Line kind false) rest → (Line kind false rest → ⊥)
+      → Fails kind rest reason.BadEntry
 
 -- why a line is refused
 pub data IsRefused (words : Words) : IosReason → Type 0 where
-  unmodelled : (opening : Words) → IsUnmodelled words opening → IsRefused words (reason.Unmodelled (joined opening))
-  rest : (kind : Kind) (rest : Words) (why : IosReason) → ((opening : Words) → IsUnmodelled words opening → ⊥)
+  unmodelled : (opening : Words) → IsUnmodelled words opening
+      → IsRefused words (reason.Unmodelled (joined opening))
+  rest : (kind : Kind) (rest : Words) (why : IosReason)
+      → ((opening : Words) → IsUnmodelled words opening → ⊥)
       → words ≡ opening_words kind ++ rest → Fails kind rest why → IsRefused words why

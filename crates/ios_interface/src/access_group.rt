@@ -5,9 +5,8 @@ ghost use Rattle.ios_interface.specs.Grammar.{IsAccessGroup, IsDirection, Line};
 ghost use Rattle.ios_interface.specs.Parts.{SomeDirection};
 ghost use Rattle.ios_interface.specs.declared.kind.Kind.TheVariants as kinds;
 
-use crate::address_line::end;
 use crate::kind::Direction;
-use ios_lex::{Due, Stop, Word, next_name, stop_before};
+use ios_lex::{Due, Stop, Word, next_end, next_name, stop_before};
 
 /// The direction that the words begin with, and the words behind it.
 fn next_direction(words: &[Word]) -> Result<(Direction, &[Word]), Stop>
@@ -34,6 +33,6 @@ pub(crate) fn access_group(words: &[Word]) -> Result<(&Word, Direction), Stop>
 {
     let (name, rest) = next_name(words, &[])?;
     let (direction, rest) = next_direction(rest)?;
-    end(rest)?;
+    next_end(rest)?;
     Ok((name, direction))
 }

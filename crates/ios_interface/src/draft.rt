@@ -1,16 +1,16 @@
 ghost use Rattle.std.specs.Prelude.{◌≡◌, ◌≤◌, ℕ, OnOk, OnErr, IfOk, IfErr};
 ghost use Rattle.ios_route.specs.ActiveRoutes.{AreLengths};
-ghost use Rattle.ios_interface.specs.Block.{IsOf, no_lines};
+ghost use Rattle.ios_interface.specs.Block.{interface_of, no_lines};
 ghost use Rattle.ios_interface.specs.Faults.{IsFault, IsRestFault};
 ghost use Rattle.ios_interface.specs.Reading.{Makes, Reads, with_address, with_list, with_setting};
 ghost use Rattle.ios_interface.specs.declared.kind.Kind.TheVariants as kinds;
 
 use crate::access_group::access_group;
-use crate::address_line::{address_line, end};
-use crate::fault::{LineFault, Taken, fault_of, unmodelled};
+use crate::address_line::address_line;
+use crate::fault::rest_reason;
 use crate::kind::{Direction, Kind, Setting};
 use crate::openings::{opening, unmodelled_opening};
-use ios_lex::Word;
+use ios_lex::{LineFault, Taken, Word, next_end, unmodelled_words};
 use ios_route::{Interface, NatMark};
 use std::alloc::{AllocError, Global};
 use std::marker::Model;
@@ -82,7 +82,7 @@ impl Draft {
         ensures refused { IfErr result (IsFault words.now) }
     {
         if let Some(opening) = unmodelled_opening(words) {
-            return Err(LineFault::Refused(unmodelled(self.alloc, opening)?));
+            return Err(LineFault::Refused(unmodelled_words(self.alloc, opening)?));
         }
         let Some((kind, rest)) = opening(words) else {
             return Ok(Taken::Ignored);
@@ -103,7 +103,10 @@ impl Draft {
     {
         let (address, len, secondary) = match address_line(rest) {
             Ok(line) => line,
-            Err(stop) => return Err(fault_of(self.alloc, Kind::Address, rest, stop)),
+            Err(stop) => {
+                let why = rest_reason(self.alloc, Kind::Address, rest, stop)?;
+                return Err(LineFault::Refused(why));
+            }
         };
         self.add_address(address, len, secondary)?;
         Ok(())
@@ -131,7 +134,10 @@ impl Draft {
     {
         let (name, direction) = match access_group(rest) {
             Ok(group) => group,
-            Err(stop) => return Err(fault_of(self.alloc, Kind::AccessGroup, rest, stop)),
+            Err(stop) => {
+                let why = rest_reason(self.alloc, Kind::AccessGroup, rest, stop)?;
+                return Err(LineFault::Refused(why));
+            }
         };
         let name = name.copy(self.alloc)?;
         self.set_list(name, direction);
@@ -154,8 +160,9 @@ impl Draft {
         ensures unchanged { OnErr result (self.new ≡ self.old) }
         ensures refused { IfErr result (IsRestFault (kinds.Setting setting) rest.now) }
     {
-        if let Err(stop) = end(rest) {
-            return Err(fault_of(self.alloc, Kind::Setting(setting), rest, stop));
+        if let Err(stop) = next_end(rest) {
+            let why = rest_reason(self.alloc, Kind::Setting(setting), rest, stop)?;
+            return Err(LineFault::Refused(why));
         }
         self.set(setting);
         Ok(())
@@ -178,7 +185,7 @@ impl Draft {
 
     /// The interface, its plain address before the secondary ones, these in the order of their lines.
     pub fn finish(self) -> Result<Interface, AllocError>
-        ensures made { IfOk result (IsOf self) }
+        ensures made { IfOk result (λ i. i ≡ interface_of self) }
         ensures lengths { IfOk result AreLengths }
     {
         let mut addresses = self.secondary;

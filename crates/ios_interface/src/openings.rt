@@ -1,14 +1,12 @@
 ghost use Rattle.std.specs.Prelude.{◌≡◌, ◌++◌, IfSome, IfNone};
-ghost use Rattle.std.specs.List.{AllByRecursion};
 ghost use Rattle.ios_lex.specs.Phrases.{Words};
 ghost use Rattle.ios_lex.specs.Refusal.{texts};
 ghost use Rattle.ios_interface.specs.Grammar.{opening_words};
-ghost use Rattle.ios_interface.specs.Parts.{IsAmong, LacksOpening, words_of};
 ghost use Rattle.ios_interface.specs.Reading.{IsUnmodelled};
 ghost use Rattle.ios_interface.specs.declared.kind.Kind.{Kind as KindOf};
 
 use crate::kind::{Kind, Setting};
-use ios_lex::Word;
+use ios_lex::{Word, behind, first_opening};
 
 /// The kinds of lines that are modelled.
 const KINDS: [Kind; 7] = [
@@ -36,26 +34,11 @@ const UNMODELLED: [&[&str]; 11] = [
     &["ip", "nat", "enable"],
 ];
 
-/// The words behind these.
-fn behind<'a>(words: &'a [Word], opening: &[&str]) -> Option<&'a [Word]>
-    ensures found { IfSome result (λ rest. words.now ≡ texts opening.now ++ rest.now) }
-    ensures none { IfNone result ((rest : Words) → words.now ≡ texts opening.now ++ rest → ⊥) }
-{
-    let Some((text, others)) = opening.split_first() else {
-        return Some(words);
-    };
-    let (first, rest) = words.split_first()?;
-    if first.is(text) {
-        behind(rest, others)
-    } else {
-        None
-    }
-}
-
 /// The kind of the line, and the words behind its opening. None where it is of none of the kinds.
 pub(crate) fn opening(words: &[Word]) -> Option<(Kind, &[Word])>
     ensures found { IfSome result (λ opened. words.now ≡ opening_words opened.0 ++ opened.1.now) }
-    ensures none { IfNone result ((kind : KindOf) (rest : Words) → words.now ≡ opening_words kind ++ rest → ⊥) }
+    ensures none { IfNone result
+        ((kind : KindOf) (rest : Words) → words.now ≡ opening_words kind ++ rest → ⊥) }
 {
     for kind in KINDS {
         if let Some(rest) = behind(words, kind.opening()) {
@@ -63,18 +46,6 @@ pub(crate) fn opening(words: &[Word]) -> Option<(Kind, &[Word])>
         }
     }
     None
-}
-
-/// The first of these with which the line begins.
-fn first_opening<'a>(words: &[Word], openings: &[&'a [&'a str]]) -> Option<&'a [&'a str]>
-    ensures found { IfSome result (λ opening. IsAmong (words_of openings.now) words.now (texts opening.now)) }
-    ensures none { IfNone result (AllByRecursion (LacksOpening words.now) (words_of openings.now)) }
-{
-    let (first, others) = openings.split_first()?;
-    if behind(words, first).is_some() {
-        return Some(*first);
-    }
-    first_opening(words, others)
 }
 
 /// The words with which the line begins, where it is for these not modelled.

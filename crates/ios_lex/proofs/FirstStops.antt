@@ -7,6 +7,7 @@ use Rattle.ios_lex.specs.declared.stop.Due.TheVariants as due
 use Rattle.ios_lex.specs.declared.stop.Stop.{Stop}
 use Rattle.ios_lex.specs.Phrases.{Words}
 use Rattle.ios_lex.specs.Following.{Begins, MayFollow, IsAddressWord, IsNumberWord, IsExpected}
+use Rattle.ios_lex.specs.NextWords.{NoName}
 use Rattle.ios_lex.specs.Stops as specs
 use Rattle.ios_lex.specs.Stops.{expected_of, is_lax, LacksFirst, StopsBefore, IsStop}
 use Rattle.ios_lex.proofs.Stopping.{stop_first}
@@ -52,6 +53,46 @@ stop_at_address Line words stop left is address number some lacks =
     stop_at Line words stop due.Address left is refl (address.0 ∷ address.2.0, address.2.1)
     (record { address = expected address; number = unexpected number; name = unexpected (λ h. some h.0); whole = unexpected some })
     (λ none. some) lacks
+
+-- the same where the first word is an address, but none with which any but a lax line goes on
+pub stop_at_lax_address : {Named : List ℕ → Type 0} (Line : Bool → Words → Type 0) (words rest : Words) (word : List ℕ) (stop : Stop) → words ≡ word ∷ rest → stop.left ≡ length words → stop.due ≡ due.Mask
+    → MayFollow (Line false) [] IsAddressWord → (MayFollow (Line false) [] IsNumberWord → ⊥) → (Line false [] → ⊥)
+    → (Begins (Line false) (word ∷ []) → ⊥) → Begins (Line true) (word ∷ []) → IsStop Named Line words stop
+stop_at_lax_address Line words rest word stop whole left is address number some none lax =
+    stop_first Line words stop left (rw (is, whole) (specs.word word rest (record {
+      begins = (address.0 ∷ address.2.0, address.2.1);
+      stops = none;
+      expected = record { address = expected address; number = unexpected number; name = unexpected (λ h. some h.0); whole = unexpected some };
+      lax = expected lax;
+    })))
+
+-- where a keyword has to stand
+pub stop_at_keyword : {Named : List ℕ → Type 0} (Line : Bool → Words → Type 0) (words : Words) (stop : Stop) → stop.left ≡ length words → stop.due ≡ due.Keyword → Begins (Line false) [] → (Line false [] → ⊥)
+    → ((word : List ℕ) → IsAddressWord word → Begins (Line false) (word ∷ []) → ⊥) → ((word : List ℕ) → IsNumberWord word → Begins (Line false) (word ∷ []) → ⊥)
+    → ((b : Bool) → LacksFirst (Line b) words) → IsStop Named Line words stop
+stop_at_keyword Line words stop left is begins some no_address no_number lacks =
+    stop_at Line words stop due.Keyword left is refl begins
+    (record {
+      address = unexpected (λ h. no_address h.0 h.1 h.2);
+      number = unexpected (λ h. no_number h.0 h.1 h.2);
+      name = unexpected (λ h. some h.0);
+      whole = unexpected some;
+    })
+    (λ none. some) lacks
+
+-- where a line may end, and no word is looked up in a table of names
+pub stop_at_end : (Line : Bool → Words → Type 0) (words : Words) (stop : Stop) → stop.left ≡ length words → stop.due ≡ due.Nothing → Line false []
+    → ((word : List ℕ) → IsAddressWord word → Begins (Line false) (word ∷ []) → ⊥) → ((word : List ℕ) → IsNumberWord word → Begins (Line false) (word ∷ []) → ⊥)
+    → (words ≡ [] → ⊥) → ((b : Bool) → LacksFirst (Line b) words) → IsStop NoName Line words stop
+stop_at_end Line words stop left is ends no_address no_number some lacks =
+    stop_at Line words stop due.Nothing left is refl ([], ends)
+    (record {
+      address = unexpected (λ h. no_address h.0 h.1 h.2);
+      number = unexpected (λ h. no_number h.0 h.1 h.2);
+      name = unexpected (λ h. h.1.1);
+      whole = expected ends;
+    })
+    (λ none. absurd (some none)) lacks
 
 -- where a line goes on behind its first word
 pub stop_ahead : {Named : List ℕ → Type 0} (Line : Bool → Words → Type 0) (words rest : Words) (word : List ℕ) (stop : Stop) → words ≡ word ∷ rest → Begins (Line false) (word ∷ [])

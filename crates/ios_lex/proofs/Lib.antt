@@ -24,8 +24,15 @@ pub mod Choices
 pub mod OneCut
 pub mod OneStop
 pub mod FirstStops
+pub mod StopReasons
 pub mod SomeStop
 pub mod Among
 pub mod ListNumbers
 pub mod WordForms
 pub mod NextWordForms
+pub mod LineParts
+pub mod MaskForms
+pub mod OneWord
+pub mod OneOpening
+pub mod LineOpenings
+pub mod JoinedWords

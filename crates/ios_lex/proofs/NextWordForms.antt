@@ -21,7 +21,7 @@ use Rattle.ios_lex.proofs.Stopping.{stop_first}
 use Rattle.ios_lex.proofs.WordForms.{no_number_address, number_word, zero_address, zero_number}
 
 -- one word stands alone
-address_alone : (n : ℕ) (word : List ℕ) (more : Words) → IsAddressOf n (word ∷ more) → IsAddress word n
+pub address_alone : (n : ℕ) (word : List ℕ) (more : Words) → IsAddressOf n (word ∷ more) → IsAddress word n
 address_alone n word more is = let same : word ≡ is.0 = cc in rw same is.2
 
 pub address_read : (words rest : Words) (word : List ℕ) (n : ℕ) → words ≡ word ∷ rest → IsAddress word n → BeginsWith (IsAddressOf n) words rest
@@ -30,11 +30,15 @@ address_read words rest word n whole is = (word ∷ [], whole, (word, refl, is))
 pub no_address_begins : (word : List ℕ) → ((n : ℕ) → IsAddress word n → ⊥) → (b : Bool) → Begins (SomeAddress b) (word ∷ []) → ⊥
 no_address_begins word none b begins = none begins.1.0 (address_alone begins.1.0 word begins.0 begins.1.1)
 
-no_address_left : (n : ℕ) → IsAddressOf n [] → ⊥
+-- the word that is an address, and those behind it
+pub address_word : (n : ℕ) (words rest : Words) → BeginsWith (IsAddressOf n) words rest → (word : List ℕ) × (words ≡ word ∷ rest) × IsAddress word n
+address_word n words rest (front, whole, is) = (is.0, (rw is.1 at whole), is.2)
+
+pub no_address_left : (n : ℕ) → IsAddressOf n [] → ⊥
 no_address_left n is = absurd (cc)
 
-pub address_stop : (words : Words) (stop : Stop) → stop.left ≡ length words → stop.due ≡ due.Address → ((b : Bool) → LacksFirst (SomeAddress b) words)
-    → IsStop NoName SomeAddress words stop
+pub address_stop : {Named : List ℕ → Type 0} (words : Words) (stop : Stop) → stop.left ≡ length words → stop.due ≡ due.Address → ((b : Bool) → LacksFirst (SomeAddress b) words)
+    → IsStop Named SomeAddress words stop
 address_stop words stop left is lacks =
     stop_at_address SomeAddress words stop left is
     (codes "0.0.0.0", (0, zero_address), ([], (0, (codes "0.0.0.0", refl, zero_address))))

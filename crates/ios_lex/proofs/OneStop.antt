@@ -1,8 +1,13 @@
 -- A line stops at one word.
 use Rattle.std.proofs.Common.{◌≡◌, ℕ, Bool, false, List, [], ◌∷◌, ◌++◌, refl, sym, subst, ◌∙◌, append_assoc}
 use Rattle.std.proofs.lemmas.Bool.Decides.{same_from_decides}
+use Rattle.std.proofs.lemmas.List.{append-nil}
 use Rattle.ios_lex.specs.Phrases.{Words}
 use Rattle.ios_lex.specs.Following.{Begins, Expected, IsExpected, StopsAt}
+
+-- a whole line begins one
+pub begins_whole : (Kind : Words → Type 0) (words : Words) → Kind words → Begins Kind words
+begins_whole Kind words whole = ([], rw (append-nil words) whole)
 
 -- what begins a line begins it with each of its own beginnings
 pub begins_from_longer : (Kind : Words → Type 0) (front more : Words) → Begins Kind (front ++ more) → Begins Kind front

@@ -34,3 +34,15 @@ pub zeros_of_mask : (mask zeros n : ℕ) → IsPrefixMask mask n → 2 ^ zeros �
 zeros_of_mask mask zeros n prefix above below =
     let same = same_power zeros (32 - n) (omega (arith, prefix.value)) (omega (arith, prefix.value)) in
     rw (← same) prefix.value
+
+-- a mask has one length
+pub prefix_is_one : (mask m n : ℕ) → IsPrefixMask mask m → IsPrefixMask mask n → m ≡ n
+prefix_is_one mask m n p q = by (cases_order m n)
+  where
+    no_less : (low high : ℕ) → IsPrefixMask mask low → IsPrefixMask mask high → low < high → ⊥
+    no_less low high p q less = omega (arith, pow_below (32 - high) (32 - low) (omega (arith, p.few, q.few, less)), p.value, q.value)
+
+    by : (m ≡ n) ⊎ ((m < n) ⊎ (n < m)) → m ≡ n
+    by (inl same) = same
+    by (inr (inl less)) = absurd (no_less m n p q less)
+    by (inr (inr more)) = absurd (no_less n m q p more)

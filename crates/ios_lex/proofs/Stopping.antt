@@ -198,7 +198,8 @@ other_of Part Other Line words optional lacks line = by (optional.splits words l
     by (inr ([], back, same, is)) = absurd (optional.some is)
     by (inr (first ∷ front, back, same, is)) = absurd (lacks first (front ++ back) same (front, is))
 
-lacks_less : (Part Larger : Words → Type 0) (words : Words) → ((x : Words) → Part x → Larger x) → LacksFirst Larger words → LacksFirst Part words
+-- words that begin none of a larger kind begin none of the part
+pub lacks_less : (Part Larger : Words → Type 0) (words : Words) → ((x : Words) → Part x → Larger x) → LacksFirst Larger words → LacksFirst Part words
 lacks_less Part Larger words more lacks first rest same begins = lacks first rest same (begins.0, more (first ∷ begins.0) begins.1)
 
 -- only the first word counts
@@ -273,3 +274,25 @@ stop_without Part Other Line words stop first more lacks forms stops = record {
   left = stops.left;
   stops = stops_without Part Other Line stops.front stops.back stop.due first more (rw stops.whole at lacks) forms stops.stops;
 }
+
+-- before the end of a line no name is due, so the table of names makes no difference
+pub stop_in_any_names : {Named Other : List ℕ → Type 0} (Line : Bool → Words → Type 0) (words : Words) (stop : Stop) → (expected_of stop.due).whole ≡ false
+    → IsStop Named Line words stop → IsStop Other Line words stop
+stop_in_any_names {Named = Named} {Other = Other} Line words stop partly is =
+    record { front = is.front; back = is.back; whole = is.whole; left = is.left; stops = by is.front is.back is.stops }
+  where
+    by : (front back : Words) → StopsBefore Named Line front stop.due back → StopsBefore Other Line front stop.due back
+    by front [] (specs.short begins none) = specs.short begins none
+    by front (w ∷ ws) (specs.word _ _ stops) =
+        let none : Line false front → ⊥ = λ whole. let ends = stops.expected.whole.1 whole in cc (ends, partly) in
+        specs.word w ws (record {
+          begins = stops.begins;
+          stops = stops.stops;
+          expected = record {
+            address = stops.expected.address;
+            number = stops.expected.number;
+            name = (λ name. absurd (none (stops.expected.name.0 name).0), λ name. absurd (none name.0));
+            whole = stops.expected.whole;
+          };
+          lax = stops.lax;
+        })

@@ -25,7 +25,8 @@ pub record Expected : Type 0 where
   pub name : Bool
   pub whole : Bool
 
-pub record IsExpected (Named : List ℕ → Type 0) (Kind : Words → Type 0) (front : Words) (expected : Expected) : Type 0 where
+pub record IsExpected (Named : List ℕ → Type 0) (Kind : Words → Type 0)
+    (front : Words) (expected : Expected) : Type 0 where
   pub address : IsTrue expected.address ↔ MayFollow Kind front IsAddressWord
   pub number : IsTrue expected.number ↔ MayFollow Kind front IsNumberWord
   pub name : IsTrue expected.name ↔ (Kind front × MayFollow Kind front Named)
@@ -33,7 +34,8 @@ pub record IsExpected (Named : List ℕ → Type 0) (Kind : Words → Type 0) (f
 
 -- the front begins a line, and no line goes on with the word. A grammar says of two kinds of lines: those that it takes, and, where
 -- it is lax, those too that keep all its rules but one, as on the order of two numbers; the word may be one of these
-pub record StopsAt (Named : List ℕ → Type 0) (Line : Bool → Words → Type 0) (front : Words) (word : List ℕ) (due : Expected) (over : Bool) : Type 0 where
+pub record StopsAt (Named : List ℕ → Type 0) (Line : Bool → Words → Type 0)
+    (front : Words) (word : List ℕ) (due : Expected) (over : Bool) : Type 0 where
   pub begins : Begins (Line false) front
   pub stops : Begins (Line false) (front ++ word ∷ []) → ⊥
   pub expected : IsExpected Named (Line false) front due

@@ -14,3 +14,4 @@ pub mod Refusal
 pub mod Stops
 pub mod ListNames
 pub mod NextWords
+pub mod Openings

@@ -7,7 +7,12 @@ use Rattle.ios_lex.specs.RawLines.{raw_lines}
 use Rattle.ios_lex.specs.Lines.{Reading, IsUnclosed}
 
 abbrev pub reading_of : Line → Reading
-reading_of line = record { number = line.number; indented = line.indented; banner = line.banner; words = line.words.items }
+reading_of line = record {
+  number = line.number;
+  indented = line.indented;
+  banner = line.banner;
+  words = line.words.items;
+}
 
 -- a banner of the bytes has no end; memory may be wanting at any time
 abbrev pub IsFault : List ℕ → LexFault → Type 0

@@ -1,9 +1,10 @@
--- One word of a line, as a kind of words: an address, a number, a name. Lines may be lax about names.
+-- One word of a line, as a kind of words: an address, a mask, a number, a name. Lines may be lax about names, and about masks.
 use Rattle.std.specs.Prelude.{◌≡◌, ℕ, ◌≤◌, Bool, true, false, List, [], ◌∷◌}
 use Rattle.std.specs.List.{list_any}
 use Rattle.ios_lex.specs.Address.{IsAddress}
 use Rattle.ios_lex.specs.Decimal.{IsNumber}
 use Rattle.ios_lex.specs.ListNames.{is_name}
+use Rattle.ios_lex.specs.Mask.{IsPrefixMask}
 use Rattle.ios_lex.specs.Phrases.{Words}
 use Rattle.ios_lex.specs.Refusal.{is_among, begins_with_digit}
 
@@ -13,9 +14,18 @@ IsAddressOf n words = (word : List ℕ) × (words ≡ word ∷ []) × IsAddress 
 abbrev pub SomeAddress : Bool → Words → Type 0
 SomeAddress lax words = (n : ℕ) × IsAddressOf n words
 
+-- a mask of so many ones; where masks are lax, any address is one
+abbrev pub IsMaskOf : Bool → ℕ → Words → Type 0
+IsMaskOf lax ones words =
+    (mask : ℕ) × IsAddressOf mask words × (lax ≡ false → IsPrefixMask mask ones)
+
+abbrev pub SomeMask : Bool → Words → Type 0
+SomeMask lax words = (ones : ℕ) × IsMaskOf lax ones words
+
 -- a number from `low` to `high`
 abbrev pub IsNumberOf : ℕ → ℕ → ℕ → Words → Type 0
-IsNumberOf low high n words = (word : List ℕ) × (words ≡ word ∷ []) × IsNumber high word n × (low ≤ n)
+IsNumberOf low high n words =
+    (word : List ℕ) × (words ≡ word ∷ []) × IsNumber high word n × (low ≤ n)
 
 abbrev pub SomeNumber : ℕ → ℕ → Bool → Words → Type 0
 SomeNumber low high lax words = (n : ℕ) × IsNumberOf low high n words
@@ -30,6 +40,10 @@ IsNameOf table lax name words = (words ≡ name ∷ []) × (lax ≡ false → Is
 
 abbrev pub SomeName : Words → Bool → Words → Type 0
 SomeName table lax words = (name : List ℕ) × IsNameOf table lax name words
+
+-- no more words
+abbrev pub NoMore : Bool → Words → Type 0
+NoMore lax words = words ≡ []
 
 -- a grammar whose words are looked up in no table of names
 abbrev pub NoName : List ℕ → Type 0

@@ -6,7 +6,8 @@ use Rattle.ios_lex.specs.Words.{is_some_text}
 
 -- a part without the carriage return, 13, at its end
 abbrev pub without_return : List ℕ → List ℕ
-without_return part = if slice_index part (length part - 1) == 13 then take (length part - 1) part else part
+without_return part =
+    if slice_index part (length part - 1) == 13 then take (length part - 1) part else part
 
 -- the lines that the parts between line feeds are; behind the last line feed a line stands only if bytes do
 abbrev pub lines_of_parts : List (List ℕ) → List (List ℕ)

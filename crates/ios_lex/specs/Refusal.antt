@@ -25,7 +25,8 @@ begins_with_digit word = nat_le 48 (slice_index word 0) && nat_le (slice_index w
 abbrev pub due_reason : IosReason → Expected → Bool → Bool → IosReason
 due_reason lax expected over digit =
     if over then lax
-    else if expected.address && (not expected.whole || (digit && not expected.number)) then reason.BadAddress
+    else if expected.address && (not expected.whole || (digit && not expected.number))
+    then reason.BadAddress
     else if expected.number && digit then reason.BadNumber
     else if (expected.number && not expected.whole) || expected.name then reason.UnknownName
     else reason.BadEntry

@@ -1,6 +1,7 @@
 -- Where a reader of words stops, and what was due.
-use Rattle.std.specs.Prelude.{◌≡◌, ℕ, Bool, true, false, List, [], ◌∷◌, ◌++◌, length}
+use Rattle.std.specs.Prelude.{◌≡◌, ℕ, ◌-◌, Bool, true, false, List, [], ◌∷◌, ◌++◌, length, slice_get, Option, Some, None}
 use Rattle.ios_lex.specs.declared.reason.IosReason.{IosReason}
+use Rattle.ios_lex.specs.declared.reason.IosReason.TheVariants as reason
 use Rattle.ios_lex.specs.declared.stop.Due.{Due}
 use Rattle.ios_lex.specs.declared.stop.Due.TheVariants as due
 use Rattle.ios_lex.specs.declared.stop.Stop.{Stop}
@@ -9,7 +10,12 @@ use Rattle.ios_lex.specs.Following.{Begins, Expected, StopsAt}
 use Rattle.ios_lex.specs.Refusal.{reason_of}
 
 abbrev pub expecting : Bool → Bool → Bool → Bool → Expected
-expecting address number name whole = record { address = address; number = number; name = name; whole = whole }
+expecting address number name whole = record {
+  address = address;
+  number = number;
+  name = name;
+  whole = whole;
+}
 
 -- what may follow where this is due
 abbrev pub expected_of : Due → Expected
@@ -43,13 +49,31 @@ is_lax due.Nothing = false
 abbrev pub reason_where : Words → IosReason → Due → List ℕ → IosReason
 reason_where table lax due word = reason_of table lax (expected_of due) (is_lax due) word
 
+-- the reason of a stop before this word, or behind the last one
+abbrev pub reason_before : Words → IosReason → Due → Option (List ℕ) → IosReason
+reason_before table lax due None = reason.BadEntry
+reason_before table lax due (Some word) = reason_where table lax due word
+
+-- the place of a stop among the words
+abbrev pub place_of : Words → Stop → ℕ
+place_of words stop = length words - stop.left
+
+-- the reason of a stop among the words. The words that are not modelled and the reason of a lax line are those at its place
+abbrev pub stop_reason : Words → IosReason → Words → Stop → IosReason
+stop_reason table lax words stop =
+    reason_before table lax stop.due (slice_get words (place_of words stop))
+
 -- the words are at an end too early, or the first of them is none that may follow
-pub data StopsBefore (Named : List ℕ → Type 0) (Line : Bool → Words → Type 0) (front : Words) (due : Due) : Words → Type 0 where
+pub data StopsBefore (Named : List ℕ → Type 0) (Line : Bool → Words → Type 0)
+    (front : Words) (due : Due) : Words → Type 0 where
   short : Begins (Line false) front → (Line false front → ⊥) → StopsBefore Named Line front due []
-  word : (word : List ℕ) (more : Words) → StopsAt Named Line front word (expected_of due) (is_lax due) → StopsBefore Named Line front due (word ∷ more)
+  word : (word : List ℕ) (more : Words)
+      → StopsAt Named Line front word (expected_of due) (is_lax due)
+      → StopsBefore Named Line front due (word ∷ more)
 
 -- the words stop to begin a line where so many are left
-pub record IsStop (Named : List ℕ → Type 0) (Line : Bool → Words → Type 0) (words : Words) (stop : Stop) : Type 0 where
+pub record IsStop (Named : List ℕ → Type 0) (Line : Bool → Words → Type 0)
+    (words : Words) (stop : Stop) : Type 0 where
   pub front : Words
   pub back : Words
   pub whole : words ≡ front ++ back
@@ -62,4 +86,5 @@ BeginsWith Kind words rest = (front : Words) × (words ≡ front ++ rest) × Kin
 
 -- no words of the kind begin with the first of these
 abbrev pub LacksFirst : (Words → Type 0) → Words → Type 0
-LacksFirst Kind words = (word : List ℕ) (more : Words) → words ≡ word ∷ more → Begins Kind (word ∷ []) → ⊥
+LacksFirst Kind words =
+    (word : List ℕ) (more : Words) → words ≡ word ∷ more → Begins Kind (word ∷ []) → ⊥

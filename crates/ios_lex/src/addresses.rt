@@ -27,8 +27,10 @@ impl fmt::Display for Dotted {
 
 /// The four parts of a text between its first three dots. None where it has fewer.
 pub fn four_parts(text: &[u8]) -> Option<(&[u8], &[u8], &[u8], &[u8])>
-    ensures found { IfSome result (λ parts. AreParts text.now parts.0.now parts.1.now parts.2.now parts.3.now) }
-    ensures none { IfNone result ((first second third fourth : List ℕ) → AreParts text.now first second third fourth → ⊥) }
+    ensures found { IfSome result
+        (λ parts. AreParts text.now parts.0.now parts.1.now parts.2.now parts.3.now) }
+    ensures none { IfNone result ((first second third fourth : List ℕ)
+        → AreParts text.now first second third fourth → ⊥) }
 {
     let (first, rest) = split_at_byte(text, b'.')?;
     let (second, rest) = split_at_byte(rest, b'.')?;

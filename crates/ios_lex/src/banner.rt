@@ -21,8 +21,12 @@ pub fn opened(line: &[u8]) -> Option<&[u8]>
 /// A line opens a banner exactly where it is not indented, and has three words, the first of them `banner`.
 pub fn opening_words()
     ensures unindented { (line text : List ℕ) → Opens line text → is_indented line ≡ false }
-    ensures three_words { (line text : List ℕ) → Opens line text → (second : List ℕ) × (third : List ℕ) × (more : List (List ℕ)) × (words_of line ≡ codes "banner" ∷ second ∷ third ∷ more) }
-    ensures opens { (line second third : List ℕ) (more : List (List ℕ)) → is_indented line ≡ false → words_of line ≡ codes "banner" ∷ second ∷ third ∷ more → (text : List ℕ) × Opens line text }
+    ensures three_words { (line text : List ℕ) → Opens line text
+        → (second : List ℕ) × (third : List ℕ) × (more : List (List ℕ))
+        × (words_of line ≡ codes "banner" ∷ second ∷ third ∷ more) }
+    ensures opens { (line second third : List ℕ) (more : List (List ℕ))
+        → is_indented line ≡ false → words_of line ≡ codes "banner" ∷ second ∷ third ∷ more
+        → (text : List ℕ) × Opens line text }
 {}
 
 /// How many bytes the delimiter has with which the text begins.

@@ -169,6 +169,8 @@ pub fn icmp(word: &[u8]) -> Option<(u8, Option<u8>)>
 /// A word spells one protocol at most, one port of TCP or of UDP, and one ICMP message.
 pub fn one_name()
     ensures protocol { (word : List ℕ) (m n : ℕ) → IsProtocol word m → IsProtocol word n → m ≡ n }
-    ensures port { (tcp : Bool) (word : List ℕ) (m n : ℕ) → IsPort tcp word m → IsPort tcp word n → m ≡ n }
-    ensures message { (word : List ℕ) (m n : ℕ × Option ℕ) → IsMessage word m → IsMessage word n → m ≡ n }
+    ensures port { (tcp : Bool) (word : List ℕ) (m n : ℕ)
+        → IsPort tcp word m → IsPort tcp word n → m ≡ n }
+    ensures message { (word : List ℕ) (m n : ℕ × Option ℕ)
+        → IsMessage word m → IsMessage word n → m ≡ n }
 {}

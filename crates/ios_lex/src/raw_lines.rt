@@ -7,7 +7,8 @@ use crate::cut::split_at_byte;
 
 /// The first line of a text, and what stands behind it. None where there is no line.
 pub fn first_line(text: &[u8]) -> Option<(&[u8], &[u8])>
-    ensures found { IfSome result (λ parts. raw_lines text.now ≡ parts.0.now ∷ raw_lines parts.1.now) }
+    ensures found { IfSome result
+        (λ parts. raw_lines text.now ≡ parts.0.now ∷ raw_lines parts.1.now) }
     ensures shorter { IfSome result (λ parts. length parts.1.now < length text.now) }
     ensures none { IfNone result (raw_lines text.now ≡ []) }
 {
@@ -20,7 +21,8 @@ pub fn first_line(text: &[u8]) -> Option<(&[u8], &[u8])>
 /// The line that a text without a line feed is, and nothing behind it. None where it is empty.
 fn last_line(text: &[u8]) -> Option<(&[u8], &[u8])>
     requires { IsFree 10 text.now }
-    ensures found { IfSome result (λ parts. raw_lines text.now ≡ parts.0.now ∷ raw_lines parts.1.now) }
+    ensures found { IfSome result
+        (λ parts. raw_lines text.now ≡ parts.0.now ∷ raw_lines parts.1.now) }
     ensures shorter { IfSome result (λ parts. length parts.1.now < length text.now) }
     ensures none { IfNone result (raw_lines text.now ≡ []) }
 {

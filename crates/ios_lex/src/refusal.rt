@@ -1,13 +1,33 @@
-ghost use Rattle.std.specs.Prelude.{◌≡◌, IfOk};
+ghost use Rattle.std.specs.Prelude.{◌≡◌, ◌≤◌, length, IfOk};
 ghost use Rattle.ios_lex.specs.declared.reason.IosReason.TheVariants as reasons;
 ghost use Rattle.ios_lex.specs.Refusal as specs;
 ghost use Rattle.ios_lex.specs.Refusal.{texts};
+ghost use Rattle.ios_lex.specs.Stops as stops;
 ghost use Rattle.ios_lex.specs.Stops.{expected_of, is_lax, reason_where};
 
 use crate::reason::IosReason;
-use crate::stop::Due;
+use crate::stop::{Due, Stop};
 use crate::word::Word;
 use std::alloc::{AllocError, Global};
+
+/// The reason of a stop among the words: that of the word there, or that they end too early.
+pub fn stop_reason(
+    alloc: Global,
+    words: &[Word],
+    stop: Stop,
+    table: &[&str],
+    lax: IosReason,
+) -> Result<IosReason, AllocError>
+    requires { stop.left ≤ length words.now }
+    ensures { IfOk result
+        (λ why. why ≡ stops.stop_reason (texts table.now) lax words.now stop) }
+{
+    if stop.left == 0 {
+        return Ok(IosReason::BadEntry);
+    }
+    let word = &words[words.len() - stop.left];
+    reason_of(alloc, word, table, stop.due, lax)
+}
 
 /// The reason of a word where something else is due. The words of the table are not modelled; `lax` is the reason where
 /// only a line that is lax goes on with the word.

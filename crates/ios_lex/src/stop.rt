@@ -14,7 +14,8 @@ pub enum Due {
     AddressOrNumberOrEnd,
     /// Any name, which may be spelled as an address or a number is; the word is none that the line allows there.
     Name,
-    /// An address that is a mask; the word is an address, and none that the line allows there.
+    /// An address that is a mask, or that is in order with one before, as the last of a range with its first; the word is
+    /// an address, and none that the line allows there.
     Mask,
     /// A number or a name.
     Number,

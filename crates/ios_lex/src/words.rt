@@ -45,7 +45,8 @@ pub fn from_next_word(line: &[u8]) -> &[u8]
 /// The bytes before the first gap, and those after its first byte.
 fn next_part(text: &[u8]) -> (&[u8], &[u8])
     requires { 0 < length text.now }
-    ensures words { words_of text.now ≡ filter is_some_text (result.0.now ∷ []) ++ words_of result.1.now }
+    ensures words { words_of text.now
+        ≡ filter is_some_text (result.0.now ∷ []) ++ words_of result.1.now }
     ensures shorter { length result.1.now < length text.now }
 {
     let end = word_len(text);
@@ -58,7 +59,8 @@ fn next_part(text: &[u8]) -> (&[u8], &[u8])
 
 /// Adds the word, unless it is empty.
 fn push_word(alloc: Global, words: &mut Vec<Word>, part: &[u8]) -> Result<(), AllocError>
-    ensures { IfOk result (λ _. words.new.items ≡ words.old.items ++ filter is_some_text (part.now ∷ [])) }
+    ensures { IfOk result
+        (λ _. words.new.items ≡ words.old.items ++ filter is_some_text (part.now ∷ [])) }
 {
     if !part.is_empty() {
         words.push(Word::of(alloc, part)?)?;

@@ -4,20 +4,21 @@ use Rattle.std.specs.Bool.{if◌then◌else◌}
 use Rattle.ios_lex.specs.declared.stop.Due.TheVariants as due
 use Rattle.ios_lex.specs.declared.stop.Stop.{Stop}
 use Rattle.ios_lex.specs.Following.{Begins}
-use Rattle.ios_lex.specs.NextWords.{IsNameOf, NoName}
+use Rattle.ios_lex.specs.NextWords.{IsNameOf, NoMore, NoName}
 use Rattle.ios_lex.specs.Phrases.{Words, Then}
 use Rattle.ios_lex.specs.Refusal.{begins_with_digit}
 use Rattle.ios_lex.specs.Stops.{BeginsWith, expected_of, LacksFirst, IsStop}
 use Rattle.ios_lex.proofs.Chains.{then_map}
-use Rattle.ios_lex.proofs.FirstStops.{lacks_word}
+use Rattle.ios_lex.proofs.FirstStops.{lacks_word, stop_at_end, stop_at_keyword}
+use Rattle.ios_lex.proofs.LineParts.{IsPart, name_part, some_name, stop_behind_first, stop_in_first, stop_of_same, then_read}
+use Rattle.ios_lex.proofs.OneCut.{single_word_prefix_free}
 use Rattle.ios_lex.proofs.Stopping.{stop_behind}
 use Rattle.ios_lex.proofs.WordForms.{other_no_address, other_no_number}
 use Rattle.ios_nat.specs.declared.entry.DynamicFrom.{DynamicFrom}
 use Rattle.ios_nat.specs.declared.entry.DynamicFrom.TheVariants as from
 use Rattle.ios_nat.specs.declared.kind.Kind.TheVariants as kinds
 use Rattle.ios_nat.specs.Grammar.{from_name, IsDynamic, IsFromWord, IsOverload, Line, unmodelled}
-use Rattle.ios_nat.specs.Parts.{from_of, IsFrom, NoMore, SomeFromEnd, SomeFromWord, SomeListName, SomeNameEnd, SomeOverload}
-use Rattle.ios_nat.proofs.Sequences.{IsPart, name_part, one_word_free, some_name, stop_at_end, stop_at_keyword, stop_behind_first, stop_in_first, stop_of_same, then_read}
+use Rattle.ios_nat.specs.Parts.{from_of, IsFrom, SomeFromEnd, SomeFromWord, SomeListName, SomeNameEnd, SomeOverload}
 
 -- where the addresses come from, by its word and its name
 from_part : (source : DynamicFrom) (words : Words) → IsFromWord source words → (pool : Bool) × IsFrom pool words
@@ -68,7 +69,7 @@ line_parts b x = (
 -- the parts, and some words of each kind
 
 from_word_part : IsPart SomeFromWord
-from_word_part = record { free = λ b. one_word_free (SomeFromWord b) (λ x is. ((if is.0 then codes "pool" else codes "interface"), is.1)); more = λ x is. is }
+from_word_part = record { free = λ b. single_word_prefix_free (SomeFromWord b) (λ x is. ((if is.0 then codes "pool" else codes "interface"), is.1)); more = λ x is. is }
 
 some_overload : (b : Bool) → SomeOverload b []
 some_overload b = (false, IsOverload.none refl refl)

@@ -5,6 +5,7 @@ use Rattle.std.specs.HashMap.{HashMap, get}
 use Rattle.std.specs.List.{list_any}
 use Rattle.std.specs.Option.{option_or}
 use Rattle.std.proofs.lemmas.Bool.Decides.{nat_tests}
+use Rattle.std.proofs.lemmas.List.{map-append}
 use Rattle.std.proofs.lemmas.List.Folds.{find-append}
 use Rattle.std.proofs.lemmas.Map.Keys.{IsDistinct-push}
 use Rattle.ios_nat.specs.Index.{IsIndex}
@@ -27,10 +28,6 @@ absent (Some x) none = cc none
 or_none : {X : Type 0} (x : Option X) → option_or x None ≡ x
 or_none None = refl
 or_none (Some x) = refl
-
-map_push : {E K : Type 0} (key : E → K) (entries : List E) (entry : E) → map key (entries ++ entry ∷ []) ≡ map key entries ++ key entry ∷ []
-map_push key [] entry = refl
-map_push key (x ∷ xs) entry = ap (λ keys. key x ∷ keys) (map_push key xs entry)
 
 none_has : {E K : Type 0} (same : K → K → Bool) (key : E → K) (entries : List E) (k : K) → find (λ e. same k (key e)) entries ≡ None → list_any (same k) (map key entries) ≡ false
 none_has same key [] k none = refl
@@ -68,7 +65,7 @@ index_push {same = same} laws key gives entries entry old reserved new index roo
 pub once_push : {E K V : Type 0} {same : K → K → Bool} → IsEquivalence same → (key : E → K) (gives : E → V) (entries : List E) (entry : E)
     → AreOnce same key entries → option_map gives (find (λ e. same (key entry) (key e)) entries) ≡ None → AreOnce same key (entries ++ entry ∷ [])
 once_push {same = same} laws key gives entries entry once none =
-    rw (map_push key entries entry) (IsDistinct-push laws (map key entries) (key entry) once (none_has same key entries (key entry) (nothing_mapped gives _ none)))
+    rw (map-append key entries (entry ∷ [])) (IsDistinct-push laws (map key entries) (key entry) once (none_has same key entries (key entry) (nothing_mapped gives _ none)))
 
 pub side_laws : IsEquivalence same_side
 side_laws = record { refl = λ x. grind (arith, nat_tests); symm = λ x y. grind (arith, nat_tests); congr = λ x y z same. grind (arith, nat_tests) }

@@ -1,6 +1,5 @@
 pub mod Index
 pub mod PoolNames
-pub mod Sequences
 pub mod NoKind
 pub mod OptionWords
 pub mod StaticLines

@@ -1,9 +1,7 @@
 -- The words of a line spell one entry.
-use Rattle.std.proofs.Common.{◌≡◌, ℕ, Bool, false, List, [], ◌∷◌, ◌++◌, codes, refl, sym, ap, ◌∙◌}
-use Rattle.ios_lex.specs.Decimal.{IsNumber}
-use Rattle.ios_lex.specs.NextWords.{IsAddressOf, IsNameOf, IsNumberOf}
+use Rattle.std.proofs.Common.{◌≡◌, ℕ, Bool, false, ◌++◌, codes, refl, sym, ap, ◌∙◌}
 use Rattle.ios_lex.specs.Phrases.{Words}
-use Rattle.ios_lex.proofs.AddressParts.{address_is_one}
+use Rattle.ios_lex.proofs.OneWord.{one_address, one_name, one_number, one_word}
 use Rattle.ios_lex.proofs.WordForms.{other_no_address, words_differ}
 use Rattle.ios_nat.specs.declared.entry.AddressEntry.{AddressEntry}
 use Rattle.ios_nat.specs.declared.entry.DynamicEntry.{DynamicEntry}
@@ -14,26 +12,6 @@ use Rattle.ios_nat.specs.declared.kind.Kind.TheVariants as kinds
 use Rattle.ios_nat.specs.Grammar.{from_name, from_word, IsAddressEntry, IsDynamic, IsOverload, IsPool, IsPortEntry, IsProto, unmodelled}
 use Rattle.ios_nat.specs.Table.{Pool}
 use Rattle.ios_nat.proofs.StaticLines.{proto_word}
-
--- two words that stand alone before what ends the same words are one, and what stands behind them is
-one_word : (front back front' back' : Words) (word word' : List ℕ) → front ≡ word ∷ [] → front' ≡ word' ∷ [] → front ++ back ≡ front' ++ back' → (word ≡ word') × (back ≡ back')
-one_word front back front' back' word word' one one' same =
-    let longer : (word ∷ []) ++ back ≡ (word' ∷ []) ++ back' = sym (ap (λ f. f ++ back) one) ∙ same ∙ ap (λ f. f ++ back') one' in
-    (cc longer, cc longer)
-
-one_address : (m n : ℕ) (front back front' back' : Words) → IsAddressOf m front → IsAddressOf n front' → front ++ back ≡ front' ++ back' → (m ≡ n) × (back ≡ back')
-one_address m n front back front' back' is is' same =
-    let word = one_word front back front' back' is.0 is'.0 is.1 is'.1 same in
-    (address_is_one is.0 m n is.2 (rw word.0 is'.2), word.1)
-
-one_number : (low high m n : ℕ) (front back front' back' : Words) → IsNumberOf low high m front → IsNumberOf low high n front' → front ++ back ≡ front' ++ back' → (m ≡ n) × (back ≡ back')
-one_number low high m n front back front' back' is is' same =
-    let word = one_word front back front' back' is.0 is'.0 is.1 is'.1 same in
-    let other : IsNumber high is.0 n = rw word.0 is'.2 in
-    (is.2.decimal.value ∙ sym other.decimal.value, word.1)
-
-one_name : (table : Words) (name name' : List ℕ) (front back front' back' : Words) → IsNameOf table false name front → IsNameOf table false name' front' → front ++ back ≡ front' ++ back' → (name ≡ name') × (back ≡ back')
-one_name table name name' front back front' back' is is' same = one_word front back front' back' name name' is.0 is'.0 same
 
 one_proto : (p q : ℕ) (front back front' back' : Words) → IsProto p front → IsProto q front' → front ++ back ≡ front' ++ back' → (p ≡ q) × (back ≡ back')
 one_proto p q front back front' back' (IsProto.tcp whole is) (IsProto.tcp whole' is') same = (is ∙ sym is', (one_word front back front' back' (codes "tcp") (codes "tcp") whole whole' same).1)

@@ -2,11 +2,11 @@
 use Rattle.std.proofs.Common.{◌≡◌, ◌⊎◌, inl, inr, ℕ, Bool, true, false, List, [], ◌∷◌, ◌++◌, length, codes, refl, sym, ap, ◌∙◌}
 use Rattle.ios_lex.specs.declared.reason.IosReason.{IosReason}
 use Rattle.ios_lex.specs.declared.reason.IosReason.TheVariants as reason
-use Rattle.ios_lex.specs.Following.{Begins, Expected, StopsAt}
+use Rattle.ios_lex.specs.Following.{Expected, StopsAt}
 use Rattle.ios_lex.specs.NextWords.{NoName}
 use Rattle.ios_lex.specs.Phrases.{Words}
-use Rattle.ios_lex.proofs.OneStop.{no_begins_behind_stop, stop_is_one}
-use Rattle.std.proofs.lemmas.List.{append-nil}
+use Rattle.ios_lex.proofs.OneStop.{begins_whole, no_begins_behind_stop, stop_is_one}
+use Rattle.ios_lex.proofs.OneOpening.{IsFound, SameOpening, one_opening}
 use Rattle.ios_nat.specs.declared.entry.AddressEntry.{AddressEntry}
 use Rattle.ios_nat.specs.declared.entry.PortEntry.{PortEntry}
 use Rattle.ios_nat.specs.declared.kind.Kind.{Kind}
@@ -19,20 +19,16 @@ use Rattle.ios_nat.proofs.OneEntry.{no_two_forms, one_address_entry, one_dynamic
 
 -- a line opens in one way
 
-record SameOpening (kind other : Kind) (rest rest' : Words) : Type 0 where
-  pub kind_same : kind ≡ other
-  pub rest_same : rest ≡ rest'
+abbrev all_kinds : List Kind
+all_kinds = kinds.Static ∷ kinds.Dynamic ∷ kinds.Pool ∷ []
 
-one_opening : (kind other : Kind) (rest rest' : Words) → opening_words kind ++ rest ≡ opening_words other ++ rest' → SameOpening kind other rest rest'
-one_opening kinds.Static kinds.Static rest rest' same = record { kind_same = refl; rest_same = cc same }
-one_opening kinds.Dynamic kinds.Dynamic rest rest' same = record { kind_same = refl; rest_same = cc same }
-one_opening kinds.Pool kinds.Pool rest rest' same = record { kind_same = refl; rest_same = cc same }
-one_opening kinds.Static kinds.Dynamic rest rest' same = absurd (let no : codes "static" ≡ codes "list" = cc same in cc no)
-one_opening kinds.Dynamic kinds.Static rest rest' same = absurd (let no : codes "list" ≡ codes "static" = cc same in cc no)
-one_opening kinds.Static kinds.Pool rest rest' same = absurd (let no : codes "inside" ≡ codes "pool" = cc same in cc no)
-one_opening kinds.Pool kinds.Static rest rest' same = absurd (let no : codes "pool" ≡ codes "inside" = cc same in cc no)
-one_opening kinds.Dynamic kinds.Pool rest rest' same = absurd (let no : codes "inside" ≡ codes "pool" = cc same in cc no)
-one_opening kinds.Pool kinds.Dynamic rest rest' same = absurd (let no : codes "pool" ≡ codes "inside" = cc same in cc no)
+kind_of_line : (kind : Kind) → IsFound opening_words all_kinds kind
+kind_of_line kinds.Static rest = refl
+kind_of_line kinds.Dynamic rest = refl
+kind_of_line kinds.Pool rest = refl
+
+one_line_opening : (kind other : Kind) (rest rest' : Words) → opening_words kind ++ rest ≡ opening_words other ++ rest' → SameOpening kind other rest rest'
+one_line_opening = one_opening opening_words all_kinds kind_of_line
 
 -- the rest of a line that is read is a whole line, and its name is free
 
@@ -55,9 +51,6 @@ adds_free table number rest new kind (Adds.address entry is free added) used = c
 adds_free table number rest new kind (Adds.dynamic entry is line added) used = cc (used.0)
 adds_free table number rest new kind (Adds.pool pool is free added) used = let taken = names_are_one table.pools pool rest is used.1 in cc (taken, free)
 
-line_begins : (kind : Kind) (rest : Words) → Line kind false rest → Begins (Line kind false) rest
-line_begins kind rest line = ([], rw (append-nil rest) line)
-
 -- a line that is read is not refused
 
 port_not_taken : (table : Table) (number : ℕ) (rest : Words) (new : Table) (kind : Kind) (entry : PortEntry) → Adds table number rest new kind → kind ≡ kinds.Static → IsPortEntry entry rest
@@ -77,7 +70,7 @@ address_not_taken table number rest new kind entry (Adds.pool pool is free added
 not_both : (table : Table) (number : ℕ) (rest : Words) (new : Table) (kind : Kind) (why : IosReason) → Adds table number rest new kind → Fails table kind rest why → ⊥
 not_both table number rest new kind why adds (Fails.taken used) = adds_free table number rest new kind adds used
 not_both table number rest new kind why adds (Fails.stop f m w d b free whole stops) =
-    no_begins_behind_stop (Line kind) f rest m w d b stops whole (line_begins kind rest (adds_line table number rest new kind adds))
+    no_begins_behind_stop (Line kind) f rest m w d b stops whole (begins_whole (Line kind false) rest (adds_line table number rest new kind adds))
 not_both table number rest new kind why adds (Fails.short free begins ends) = ends (adds_line table number rest new kind adds)
 not_both table number rest new kind why adds (Fails.port entry static is taken) = port_not_taken table number rest new kind entry adds static is taken
 not_both table number rest new kind why adds (Fails.address entry static is taken) = address_not_taken table number rest new kind entry adds static is taken
@@ -105,7 +98,7 @@ reason_of_stop kind f f' w w' d d' b b' front word due over = rw (front, word, d
 
 -- a stop against a whole line
 no_stop_in_line : (kind : Kind) (rest f m : Words) (w : List ℕ) (d : Expected) (b : Bool) → StopsAt NoName (Line kind) f w d b → rest ≡ f ++ w ∷ m → Line kind false rest → ⊥
-no_stop_in_line kind rest f m w d b stops whole line = no_begins_behind_stop (Line kind) f rest m w d b stops whole (line_begins kind rest line)
+no_stop_in_line kind rest f m w d b stops whole line = no_begins_behind_stop (Line kind) f rest m w d b stops whole (begins_whole (Line kind false) rest line)
 
 one_reason : (table : Table) (kind : Kind) (rest : Words) (why other : IosReason) → Fails table kind rest why → Fails table kind rest other → why ≡ other
 one_reason table kind rest why other (Fails.taken used) (Fails.taken used') = refl
@@ -155,19 +148,19 @@ no_unknown kinds.Pool words rest opened no_source no_pool = no_pool rest opened
 
 pub tables_are_one : (table new other : Table) (number : ℕ) (words : Words) → Reads table number words new → Reads table number words other → new ≡ other
 tables_are_one table new other number words x y =
-    let one = one_opening x.kind y.kind x.rest y.rest (sym x.opened ∙ y.opened) in
+    let one = one_line_opening x.kind y.kind x.rest y.rest (sym x.opened ∙ y.opened) in
     one_table table number x.rest new other x.kind x.adds (rw (one.kind_same, one.rest_same) y.adds)
 
 pub no_refused_reading : (table new : Table) (number : ℕ) (words : Words) (why : IosReason) → Reads table number words new → IsRefused table words why → ⊥
 no_refused_reading table new number words why x (IsRefused.rest kind rest why' opened fails) =
-    let one = one_opening x.kind kind x.rest rest (sym x.opened ∙ opened) in
+    let one = one_line_opening x.kind kind x.rest rest (sym x.opened ∙ opened) in
     not_both table number x.rest new x.kind why x.adds (rw (one.kind_same, one.rest_same) fails)
 no_refused_reading table new number words why x (IsRefused.other word more whole no_static no_list) = no_other x.kind words x.rest more word x.opened whole no_static no_list
 no_refused_reading table new number words why x (IsRefused.unknown no_source no_pool) = no_unknown x.kind words x.rest x.opened no_source no_pool
 
 pub reasons_are_one : (table : Table) (words : Words) (why other : IosReason) → IsRefused table words why → IsRefused table words other → why ≡ other
 reasons_are_one table words why other (IsRefused.rest kind rest w opened fails) (IsRefused.rest kind' rest' w' opened' fails') =
-    let one = one_opening kind kind' rest rest' (sym opened ∙ opened') in
+    let one = one_line_opening kind kind' rest rest' (sym opened ∙ opened') in
     one_reason table kind rest why other fails (rw (one.kind_same, one.rest_same) fails')
 reasons_are_one table words why other (IsRefused.rest kind rest w opened fails) (IsRefused.other word more whole no_static no_list) = absurd (no_other kind words rest more word opened whole no_static no_list)
 reasons_are_one table words why other (IsRefused.rest kind rest w opened fails) (IsRefused.unknown no_source no_pool) = absurd (no_unknown kind words rest opened no_source no_pool)

@@ -7,11 +7,10 @@ use Rattle.ios_lex.specs.NextWords.{NoName}
 use Rattle.ios_lex.specs.Phrases.{Words}
 use Rattle.ios_lex.specs.Refusal.{begins_with_digit}
 use Rattle.ios_lex.specs.Stops.{IsStop}
-use Rattle.ios_lex.proofs.FirstStops.{lacks_word}
+use Rattle.ios_lex.proofs.FirstStops.{lacks_word, stop_at_end}
 use Rattle.ios_lex.proofs.Stopping.{stop_behind}
 use Rattle.ios_lex.proofs.WordForms.{other_no_address, other_no_number}
 use Rattle.ios_nat.specs.Parts.{Options}
-use Rattle.ios_nat.proofs.Sequences.{stop_at_end}
 
 behind_extendable : (alias b : Bool) (x : Words) → Options true alias b (codes "extendable" ∷ x) ↔ Options false alias b x
 behind_extendable alias b x = (forth, λ rest. inl (refl, refl, rest))

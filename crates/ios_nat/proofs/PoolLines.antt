@@ -1,19 +1,19 @@
 -- The line of a pool, part by part, and where it stops.
-use Rattle.std.proofs.Common.{◌≡◌, ◌↔◌, ℕ, Bool, false, List, [], ◌∷◌, ◌++◌, codes, refl, sym, ap, ◌∙◌, arith}
+use Rattle.std.proofs.Common.{◌≡◌, ◌↔◌, ℕ, Bool, false, List, [], ◌∷◌, ◌++◌, codes, refl, arith}
 use Rattle.ios_lex.specs.declared.stop.Stop.{Stop}
 use Rattle.ios_lex.specs.Following.{Begins}
 use Rattle.ios_lex.specs.NextWords.{IsAddressOf, IsNameOf, NoName, SomeAddress}
 use Rattle.ios_lex.specs.Phrases.{Words, Then}
 use Rattle.ios_lex.specs.Stops.{BeginsWith, expected_of, IsStop}
-use Rattle.ios_lex.proofs.AddressParts.{address_is_one}
-use Rattle.ios_lex.proofs.Chains.{cut_behind, then_map}
+use Rattle.ios_lex.proofs.Chains.{then_map}
+use Rattle.ios_lex.proofs.LineParts.{address_part, name_part, some_name, stop_behind_first, stop_in_first, stop_of_same}
+use Rattle.ios_lex.proofs.OneWord.{one_address}
 use Rattle.ios_lex.proofs.Stopping.{IsFirstPart, stop_behind, stop_within}
 use Rattle.ios_lex.proofs.WordForms.{zero_address}
 use Rattle.ios_nat.specs.declared.kind.Kind.TheVariants as kinds
 use Rattle.ios_nat.specs.Grammar.{IsLastOf, IsSize, Line, unmodelled}
 use Rattle.ios_nat.specs.Parts.{SomeLast, SomePoolEnd, SomePoolName, SomeRange}
 use Rattle.ios_nat.proofs.PoolWords.{last_part, zero_size}
-use Rattle.ios_nat.proofs.Sequences.{address_part, name_part, some_name, stop_behind_first, stop_in_first, stop_of_same}
 
 -- a line is a name and a range
 line_parts : (b : Bool) (x : Words) → Line kinds.Pool b x ↔ Then (SomePoolName b) (SomeRange b) x
@@ -60,20 +60,14 @@ first_of_range b = record {
   splits = λ words h. (h.1.front, h.1.back, h.1.whole, (h.0, h.1.first));
 }
 
-same_words : (front back front' back' : Words) (word word' : List ℕ) → front ≡ word ∷ [] → front' ≡ word' ∷ [] → front ++ back ≡ front' ++ back' → word ≡ word'
-same_words front back front' back' word word' one one' same =
-    let longer : (word ∷ []) ++ back ≡ (word' ∷ []) ++ back' = sym (ap (λ f. f ++ back) one) ∙ same ∙ ap (λ f. f ++ back') one' in cc longer
-
 -- behind its first address a range is what may follow this one
 behind_first : (first : ℕ) (front : Words) → IsAddressOf first front → (b : Bool) (x : Words) → SomeRange b (front ++ x) ↔ SomePoolEnd first b x
 behind_first first front is b x = (forth, λ end. (first, record { front = front; back = x; whole = refl; first = is; second = end }))
   where
     forth : SomeRange b (front ++ x) → SomePoolEnd first b x
     forth h =
-        let behind = cut_behind (SomeAddress b) (address_part.free b) front x h.1.front h.1.back (first, is) (h.0, h.1.first) h.1.whole in
-        let word : is.0 ≡ h.1.first.0 = same_words front x h.1.front h.1.back is.0 h.1.first.0 is.1 h.1.first.1 h.1.whole in
-        let one : first ≡ h.0 = address_is_one is.0 first h.0 is.2 (rw word h.1.first.2) in
-        rw (behind, one) h.1.second
+        let one = one_address first h.0 front x h.1.front h.1.back is h.1.first h.1.whole in
+        rw (one.1, one.0) h.1.second
 
 -- where the line stops
 

@@ -14,10 +14,6 @@ pub lookup_renamed : {K L X : Type 0} (form : K → L) (test : L → Bool) (entr
 lookup_renamed form test [] = refl
 lookup_renamed form test (e ∷ es) = ap (cond (test (form e.0)) (Some e.1)) (lookup_renamed form test es)
 
-pub map_push : {E K : Type 0} (form : E → K) (entries : List E) (entry : E) → map form (entries ++ entry ∷ []) ≡ map form entries ++ form entry ∷ []
-map_push form [] entry = refl
-map_push form (x ∷ xs) entry = ap (λ rest. form x ∷ rest) (map_push form xs entry)
-
 -- where a line begins with a name, it does not stop before one
 pub no_name_stop : (table rest more : Words) (name : List ℕ) (stop : Stop) → rest ≡ name ∷ more → IsNameBeside table name → (expected_of stop.due).whole ≡ false
     → IsStop NoName (SomeName table) rest stop → ⊥

@@ -1,8 +1,7 @@
 -- What the words of a line on address translation spell (Cisco IOS command references, `ip nat inside source` and
 -- `ip nat pool`). Where a line is lax, every word is a name, a pool may end before it begins, and every address is a mask.
 use Rattle.std.specs.Prelude.{◌≡◌, ◌⊎◌, ℕ, ◌≤◌, Bool, true, false, List, [], ◌∷◌, codes}
-use Rattle.ios_lex.specs.Mask.{IsPrefixMask}
-use Rattle.ios_lex.specs.NextWords.{IsAddressOf, IsNameOf, IsNumberOf, SomeNumber}
+use Rattle.ios_lex.specs.NextWords.{IsAddressOf, IsNameOf, IsNumberOf, SomeMask, SomeNumber}
 use Rattle.ios_lex.specs.Phrases.{Words, Then}
 use Rattle.ios_nat.specs.declared.entry.AddressEntry.{AddressEntry}
 use Rattle.ios_nat.specs.declared.entry.DynamicEntry.{DynamicEntry}
@@ -18,13 +17,16 @@ source_words = codes "ip" ∷ codes "nat" ∷ codes "inside" ∷ codes "source" 
 
 -- the words that a line of a kind begins with
 abbrev pub opening_words : Kind → Words
-opening_words kinds.Static = codes "ip" ∷ codes "nat" ∷ codes "inside" ∷ codes "source" ∷ codes "static" ∷ []
-opening_words kinds.Dynamic = codes "ip" ∷ codes "nat" ∷ codes "inside" ∷ codes "source" ∷ codes "list" ∷ []
+opening_words kinds.Static =
+    codes "ip" ∷ codes "nat" ∷ codes "inside" ∷ codes "source" ∷ codes "static" ∷ []
+opening_words kinds.Dynamic =
+    codes "ip" ∷ codes "nat" ∷ codes "inside" ∷ codes "source" ∷ codes "list" ∷ []
 opening_words kinds.Pool = codes "ip" ∷ codes "nat" ∷ codes "pool" ∷ []
 
 -- words that narrow or widen what a line of a kind translates in a way that is not modelled
 abbrev pub unmodelled : Kind → Words
-unmodelled kinds.Static = codes "network" ∷ codes "interface" ∷ codes "route-map" ∷ codes "vrf" ∷ codes "redundancy" ∷ []
+unmodelled kinds.Static =
+    codes "network" ∷ codes "interface" ∷ codes "route-map" ∷ codes "vrf" ∷ codes "redundancy" ∷ []
 unmodelled kinds.Dynamic = codes "route-map" ∷ codes "vrf" ∷ codes "reversible" ∷ codes "oer" ∷ []
 unmodelled kinds.Pool = codes "type" ∷ codes "add-route" ∷ []
 
@@ -54,19 +56,18 @@ IsPortEntry entry =
     AreOptions true true)))))
 
 abbrev pub IsAddressEntry : AddressEntry → Words → Type 0
-IsAddressEntry entry = Then (IsAddressOf entry.local) (Then (IsAddressOf entry.global) (AreOptions true true))
+IsAddressEntry entry =
+    Then (IsAddressOf entry.local) (Then (IsAddressOf entry.global) (AreOptions true true))
 
 -- the last address of a pool that begins with this one
 abbrev pub IsLastOf : Bool → ℕ → ℕ → Words → Type 0
 IsLastOf lax first last words = IsAddressOf last words × (lax ≡ false → first ≤ last)
 
-abbrev pub IsMask : Bool → Words → Type 0
-IsMask lax words = (mask : ℕ) × IsAddressOf mask words × (lax ≡ false → (ones : ℕ) × IsPrefixMask mask ones)
-
 -- the size of a pool's network, which has no effect: a mask, or the length of its prefix
 pub data IsSize (lax : Bool) (words : Words) : Type 0 where
-  mask : (rest : Words) → words ≡ codes "netmask" ∷ rest → IsMask lax rest → IsSize lax words
-  prefix : (rest : Words) → words ≡ codes "prefix-length" ∷ rest → SomeNumber 1 32 lax rest → IsSize lax words
+  mask : (rest : Words) → words ≡ codes "netmask" ∷ rest → SomeMask lax rest → IsSize lax words
+  prefix : (rest : Words) → words ≡ codes "prefix-length" ∷ rest → SomeNumber 1 32 lax rest
+      → IsSize lax words
 
 abbrev pub IsPool : Bool → Pool → Words → Type 0
 IsPool lax pool =
@@ -101,6 +102,8 @@ IsDynamic lax entry =
 
 -- what may stand behind the opening of a line of a kind
 abbrev pub Line : Kind → Bool → Words → Type 0
-Line kinds.Static lax words = ((entry : PortEntry) × IsPortEntry entry words) ⊎ ((entry : AddressEntry) × IsAddressEntry entry words)
+Line kinds.Static lax words =
+    ((entry : PortEntry) × IsPortEntry entry words)
+    ⊎ ((entry : AddressEntry) × IsAddressEntry entry words)
 Line kinds.Dynamic lax words = (entry : DynamicEntry) × IsDynamic lax entry words
 Line kinds.Pool lax words = (pool : Pool) × IsPool lax pool words

@@ -93,14 +93,18 @@ SomeFromEnd lax = Then (SomeFromWord lax) (SomeNameEnd lax)
 
 -- the entry of these words
 abbrev pub dynamic_entry : ℕ → DynamicWords → DynamicEntry
-dynamic_entry line words = record { line = line; list = words.list.now; from = from_of words.pool words.name.now; overload = words.overload }
-
-abbrev pub NoMore : Bool → Words → Type 0
-NoMore lax words = words ≡ []
+dynamic_entry line words = record {
+  line = line;
+  list = words.list.now;
+  from = from_of words.pool words.name.now;
+  overload = words.overload;
+}
 
 -- the entry comes into the table, if none has one of its sides
 abbrev pub AddsPort : Table → PortEntry → Table → Type 0
-AddsPort table entry new = (is_port_taken table.ports entry ≡ false) × (new ≡ with_port_entry table entry)
+AddsPort table entry new =
+    (is_port_taken table.ports entry ≡ false) × (new ≡ with_port_entry table entry)
 
 abbrev pub AddsAddress : Table → AddressEntry → Table → Type 0
-AddsAddress table entry new = (is_address_taken table.addresses entry ≡ false) × (new ≡ with_address_entry table entry)
+AddsAddress table entry new =
+    (is_address_taken table.addresses entry ≡ false) × (new ≡ with_address_entry table entry)

@@ -18,4 +18,5 @@ lax_reason place = if place == mask_place then reason.BadMask else reason.BadEnt
 
 -- the reason of a word at this place behind the opening of the line. The unmodelled words of its kind are tested at each
 abbrev pub reason_at : Kind → ℕ → Expected → Bool → List ℕ → IosReason
-reason_at kind place expected over word = reason_of (unmodelled kind) (lax_reason place) expected over word
+reason_at kind place expected over word =
+    reason_of (unmodelled kind) (lax_reason place) expected over word

@@ -7,8 +7,7 @@ ghost use Rattle.ios_nat.specs.Parts.{dynamic_entry, IsFrom, SomeFromWord, SomeO
 
 use crate::entry::{DynamicEntry, DynamicFrom};
 use crate::kind::Kind;
-use crate::pool_lines::end;
-use ios_lex::{Due, Stop, Word, next_name, stop_before};
+use ios_lex::{Due, Stop, Word, next_end, next_name, stop_before};
 use std::alloc::{AllocError, Global};
 
 /// A dynamic entry as the words of its line have it.
@@ -51,13 +50,14 @@ fn overload_end(words: &[Word]) -> Result<bool, Stop>
     if !first.is("overload") {
         return Err(stop_before(words, Due::Nothing));
     }
-    end(rest)?;
+    next_end(rest)?;
     Ok(true)
 }
 
 /// The dynamic entry that the words behind `ip nat inside source list` spell.
 pub(crate) fn dynamic(words: &[Word]) -> Result<DynamicWords<'_>, Stop>
-    ensures read { IfOk result (λ entry. (line : ℕ) → IsDynamic false (dynamic_entry line entry) words.now) }
+    ensures read { IfOk result
+        (λ entry. (line : ℕ) → IsDynamic false (dynamic_entry line entry) words.now) }
     ensures stop { IfErr result (IsStop NoName (Line kinds.Dynamic) words.now) }
 {
     let (list, rest) = next_name(words, Kind::Dynamic.unmodelled())?;

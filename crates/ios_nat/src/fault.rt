@@ -1,16 +1,15 @@
-ghost use Rattle.std.specs.Prelude.{◌≡◌, ◌++◌, ◌≤◌, length, IfOk, IfErr};
+ghost use Rattle.std.specs.Prelude.{◌≡◌, ◌++◌, ◌≤◌, length, IfOk};
 ghost use Rattle.ios_lex.specs.Phrases.{Words};
-ghost use Rattle.ios_lex.specs.declared.reason.IosReason.TheVariants as reasons;
-ghost use Rattle.ios_nat.specs.declared.fault.NatFault.TheVariants as fault_named;
 ghost use Rattle.ios_nat.specs.declared.kind.Kind.{Kind as KindOf};
-ghost use Rattle.ios_nat.specs.Faults.{IsFault, IsFor, stop_reason};
+ghost use Rattle.ios_nat.specs.Faults as faults;
 ghost use Rattle.ios_nat.specs.Grammar.{opening_words};
+ghost use Rattle.ios_nat.specs.Reading.{IsRefused};
 ghost use Rattle.ios_nat.specs.Refusal as specs;
 ghost use Rattle.ios_nat.specs.Table.{Table};
 
 use crate::kind::Kind;
 use crate::openings::other_source;
-use ios_lex::{IosReason, Stop, Word, reason_of, unmodelled};
+use ios_lex::{IosReason, Stop, Word, stop_reason, unmodelled};
 use std::alloc::{AllocError, Global};
 
 /// Why a line is not read into a table.
@@ -18,6 +17,16 @@ use std::alloc::{AllocError, Global};
 pub enum NatFault {
     Refused(IosReason),
     NoMemory,
+}
+
+impl From<AllocError> for NatFault {
+    ghost use Rattle.ios_nat.specs.declared.fault.NatFault.TheVariants.{NoMemory};
+
+    ghost from_gives = { λ _ fault. fault ≡ NoMemory };
+
+    fn from(_: AllocError) -> NatFault {
+        NatFault::NoMemory
+    }
 }
 
 /// The place of a pool's mask behind the opening of its line.
@@ -34,42 +43,27 @@ fn lax_reason(place: usize) -> IosReason
     }
 }
 
-/// The fault of a stop in the words behind the opening of a line of this kind.
-pub(crate) fn fault_of(alloc: Global, kind: Kind, words: &[Word], stop: Stop) -> NatFault
+/// The reason of a stop in the words behind the opening of a line of this kind.
+pub(crate) fn rest_reason(
+    alloc: Global,
+    kind: Kind,
+    words: &[Word],
+    stop: Stop,
+) -> Result<IosReason, AllocError>
     requires { stop.left ≤ length words.now }
-    ensures { IsFor (stop_reason kind words.now stop) result }
+    ensures { IfOk result (λ why. why ≡ faults.rest_reason kind words.now stop) }
 {
-    if stop.left == 0 {
-        return NatFault::Refused(IosReason::BadEntry);
-    }
     let place = words.len() - stop.left;
-    fault(reason_of(
-        alloc,
-        &words[place],
-        kind.unmodelled(),
-        stop.due,
-        lax_reason(place),
-    ))
+    stop_reason(alloc, words, stop, kind.unmodelled(), lax_reason(place))
 }
 
-/// The fault of a line of none of the kinds.
-pub(crate) fn unopened(alloc: Global, words: &[Word]) -> NatFault
+/// The reason of a line of none of the kinds.
+pub(crate) fn unopened(alloc: Global, words: &[Word]) -> Result<IosReason, AllocError>
     requires { (kind : KindOf) (rest : Words) → words.now ≡ opening_words kind ++ rest → ⊥ }
-    ensures { (table : Table) → IsFault table words.now result }
+    ensures { (table : Table) → IfOk result (IsRefused table words.now) }
 {
     match other_source(words) {
-        Some(word) => fault(unmodelled(alloc, word)),
-        None => NatFault::Refused(IosReason::BadEntry),
-    }
-}
-
-/// The fault of this reason, or that memory is wanting.
-fn fault(reason: Result<IosReason, AllocError>) -> NatFault
-    ensures refused { IfOk reason (λ why. result ≡ fault_named.Refused why) }
-    ensures memory { IfErr reason (λ _. result ≡ fault_named.NoMemory) }
-{
-    match reason {
-        Ok(why) => NatFault::Refused(why),
-        Err(_) => NatFault::NoMemory,
+        Some(word) => unmodelled(alloc, word),
+        None => Ok(IosReason::BadEntry),
     }
 }

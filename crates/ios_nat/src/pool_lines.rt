@@ -1,39 +1,20 @@
-ghost use Rattle.std.specs.Prelude.{◌≡◌, [], Bool, false, IfOk, IfErr, IfSome, IfNone};
-ghost use Rattle.ios_lex.specs.NextWords.{IsAddressOf, NoName, SomeAddress};
-ghost use Rattle.ios_lex.specs.Stops.{BeginsWith, expected_of, IsStop, LacksFirst};
+ghost use Rattle.std.specs.Prelude.{◌≡◌, false, IfOk, IfErr};
+ghost use Rattle.ios_lex.specs.NextWords.{NoName};
+ghost use Rattle.ios_lex.specs.Stops.{BeginsWith, expected_of, IsStop};
 ghost use Rattle.ios_nat.specs.declared.kind.Kind.TheVariants as kinds;
-ghost use Rattle.ios_nat.specs.Grammar.{IsLastOf, IsMask, IsPool, IsSize, Line};
-ghost use Rattle.ios_nat.specs.Parts.{NoMore, SomeLast};
+ghost use Rattle.ios_nat.specs.Grammar.{IsLastOf, IsPool, IsSize, Line};
+ghost use Rattle.ios_nat.specs.Parts.{SomeLast};
 
 use crate::kind::Kind;
 use ios_lex::{
-    Due, Stop, Word, address, next_address, next_name, next_number, prefix_len, stop_before,
+    Due, Stop, Word, first_address, next_address, next_end, next_mask, next_name, next_number,
+    stop_before,
 };
-
-/// The address that the words begin with, and the words behind it.
-fn first_address(words: &[Word]) -> Option<(u32, &[Word])>
-    ensures found { IfSome result (λ found. BeginsWith (IsAddressOf found.0) words.now found.1.now) }
-    ensures none { IfNone result ((lax : Bool) → LacksFirst (SomeAddress lax) words.now) }
-{
-    let (first, rest) = words.split_first()?;
-    Some((address(first.bytes())?, rest))
-}
-
-/// The words are at their end.
-pub(crate) fn end(words: &[Word]) -> Result<(), Stop>
-    ensures read { IfOk result (λ _. words.now ≡ []) }
-    ensures stop { IfErr result (IsStop NoName NoMore words.now) }
-{
-    if words.is_empty() {
-        Ok(())
-    } else {
-        Err(stop_before(words, Due::Nothing))
-    }
-}
 
 /// The last address of a pool that begins with this one, and the words behind it.
 fn next_last(words: &[Word], first: u32) -> Result<(u32, &[Word]), Stop>
-    ensures read { IfOk result (λ found. BeginsWith (IsLastOf false first found.0) words.now found.1.now) }
+    ensures read { IfOk result
+        (λ found. BeginsWith (IsLastOf false first found.0) words.now found.1.now) }
     ensures stop { IfErr result (IsStop NoName (SomeLast first) words.now) }
     ensures part { IfErr result (λ stop. (expected_of stop.due).whole ≡ false) }
 {
@@ -46,20 +27,6 @@ fn next_last(words: &[Word], first: u32) -> Result<(u32, &[Word]), Stop>
     Ok((last, rest))
 }
 
-/// The words are one prefix mask.
-fn mask_end(words: &[Word]) -> Result<(), Stop>
-    ensures read { IfOk result (λ _. IsMask false words.now) }
-    ensures stop { IfErr result (IsStop NoName IsMask words.now) }
-{
-    let Some((mask, rest)) = first_address(words) else {
-        return Err(stop_before(words, Due::Address));
-    };
-    if prefix_len(mask).is_none() {
-        return Err(stop_before(words, Due::Mask));
-    }
-    end(rest)
-}
-
 /// The words are the size of a pool's network: `netmask M` or `prefix-length K`.
 fn size_end(words: &[Word]) -> Result<(), Stop>
     ensures read { IfOk result (λ _. IsSize false words.now) }
@@ -69,13 +36,14 @@ fn size_end(words: &[Word]) -> Result<(), Stop>
         return Err(stop_before(words, Due::Keyword));
     };
     if first.is("netmask") {
-        return mask_end(rest);
+        let (_, rest) = next_mask(rest)?;
+        return next_end(rest);
     }
     if !first.is("prefix-length") {
         return Err(stop_before(words, Due::Keyword));
     }
     let (_, rest) = next_number(rest, 1, 32)?;
-    end(rest)
+    next_end(rest)
 }
 
 /// The name, the first and the last address of the pool that the words behind `ip nat pool` spell.

@@ -10,7 +10,7 @@ ghost use Rattle.ios_nat.specs.Translation as specs;
 use crate::address_entries::AddressEntries;
 use crate::dynamics::dynamic;
 use crate::entry::{AddressEntry, DynamicEntry, PortEntry};
-use crate::fault::{NatFault, fault_of, unopened};
+use crate::fault::{NatFault, rest_reason, unopened};
 use crate::kind::Kind;
 use crate::openings::opening;
 use crate::pool_lines::pool;
@@ -36,7 +36,12 @@ impl Model for NatTable {
 
     ghost Value = { Table };
 
-    ghost view = { λ t. record { ports = t.ports; addresses = t.addresses; pools = t.pools; dynamic = t.dynamic.items } };
+    ghost view = { λ t. record {
+      ports = t.ports;
+      addresses = t.addresses;
+      pools = t.pools;
+      dynamic = t.dynamic.items;
+    } };
 }
 
 impl NatTable {
@@ -112,7 +117,7 @@ impl NatTable {
         ensures refused { IfErr result (IsFault self.old words.now) }
     {
         let Some((kind, rest)) = opening(words) else {
-            return Err(unopened(self.alloc, words));
+            return Err(NatFault::Refused(unopened(self.alloc, words)?));
         };
         match kind {
             Kind::Static => self.read_static(rest),
@@ -123,13 +128,17 @@ impl NatTable {
 
     /// Adds the static entry that the words behind the opening of its line spell.
     fn read_static(&mut self, rest: &[Word]) -> Result<(), NatFault>
-        ensures read { OnOk result ((line : ℕ) → Adds self.old line rest.now self.new kinds.Static) }
+        ensures read { OnOk result
+            ((line : ℕ) → Adds self.old line rest.now self.new kinds.Static) }
         ensures unchanged { OnErr result (self.new ≡ self.old) }
         ensures refused { IfErr result (IsRestFault self.old kinds.Static rest.now) }
     {
         let entry = match static_entry(rest) {
             Ok(entry) => entry,
-            Err(stop) => return Err(fault_of(self.alloc, Kind::Static, rest, stop)),
+            Err(stop) => {
+                let why = rest_reason(self.alloc, Kind::Static, rest, stop)?;
+                return Err(NatFault::Refused(why));
+            }
         };
         match entry {
             StaticEntry::Port(entry) => self.add_port(entry),
@@ -146,9 +155,7 @@ impl NatTable {
         if self.ports.is_taken(&entry) {
             return Err(NatFault::Refused(IosReason::DuplicateStatic));
         }
-        if self.ports.add(entry).is_err() {
-            return Err(NatFault::NoMemory);
-        }
+        self.ports.add(entry)?;
         Ok(())
     }
 
@@ -161,9 +168,7 @@ impl NatTable {
         if self.addresses.is_taken(&entry) {
             return Err(NatFault::Refused(IosReason::DuplicateStatic));
         }
-        if self.addresses.add(entry).is_err() {
-            return Err(NatFault::NoMemory);
-        }
+        self.addresses.add(entry)?;
         Ok(())
     }
 
@@ -175,11 +180,12 @@ impl NatTable {
     {
         let words = match dynamic(rest) {
             Ok(words) => words,
-            Err(stop) => return Err(fault_of(self.alloc, Kind::Dynamic, rest, stop)),
+            Err(stop) => {
+                let why = rest_reason(self.alloc, Kind::Dynamic, rest, stop)?;
+                return Err(NatFault::Refused(why));
+            }
         };
-        let Ok(entry) = words.entry(self.alloc, line) else {
-            return Err(NatFault::NoMemory);
-        };
+        let entry = words.entry(self.alloc, line)?;
         if self.dynamic.push(entry).is_err() {
             return Err(NatFault::NoMemory);
         }
@@ -197,11 +203,12 @@ impl NatTable {
         }
         let (name, first, last) = match pool(rest) {
             Ok(pool) => pool,
-            Err(stop) => return Err(fault_of(self.alloc, Kind::Pool, rest, stop)),
+            Err(stop) => {
+                let why = rest_reason(self.alloc, Kind::Pool, rest, stop)?;
+                return Err(NatFault::Refused(why));
+            }
         };
-        if self.pools.add(self.alloc, name, first, last).is_err() {
-            return Err(NatFault::NoMemory);
-        }
+        self.pools.add(self.alloc, name, first, last)?;
         Ok(())
     }
 }

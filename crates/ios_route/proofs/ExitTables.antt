@@ -6,7 +6,7 @@ use Rattle.std.specs.Map.{lookup}
 use Rattle.std.specs.Option.{option_map}
 use Rattle.std.specs.Str.{bytes_eq}
 use Rattle.ios_route.specs.declared.exits.Outlet.{Outlet}
-use Rattle.ios_route.specs.declared.interface.Interface.{Interface}
+use Rattle.ios_route.specs.Interfaces.{Interface}
 use Rattle.ios_route.specs.declared.routes.Active.{Active}
 use Rattle.ios_route.specs.ActiveRoutes.{named}
 use Rattle.ios_route.specs.Exits.{leads_to, named_outlet, network_exit, outlet, same_name, same_network}

@@ -1,11 +1,9 @@
 -- The words of a line spell one route at most.
-use Rattle.std.proofs.Common.{◌≡◌, ◌⊎◌, inl, inr, ℕ, ◌-◌, ◌^◌, ◌<◌, true, false, List, [], ◌∷◌, Option, Some, None, refl, sym, ap, ◌∙◌, arith}
-use Rattle.std.proofs.lemmas.Bool.{cases_order}
-use Rattle.std.proofs.lemmas.Nat.{pow_below}
-use Rattle.ios_lex.specs.Decimal.{IsNumber}
-use Rattle.ios_lex.specs.Mask.{IsPrefixMask}
+use Rattle.std.proofs.Common.{◌≡◌, ℕ, true, false, [], ◌∷◌, Option, Some, None, refl, sym, ap, ◌∙◌}
 use Rattle.ios_lex.specs.Phrases.{Words}
 use Rattle.ios_lex.proofs.AddressParts.{address_is_one}
+use Rattle.ios_lex.proofs.PrefixMasks.{prefix_is_one}
+use Rattle.ios_lex.proofs.Spellings.{number_is_one}
 use Rattle.ios_route.specs.declared.static_route.RouteExit.{RouteExit}
 use Rattle.ios_route.specs.declared.static_route.RouteExit.TheVariants as exit
 use Rattle.ios_route.specs.declared.static_route.StaticRoute.{StaticRoute}
@@ -14,9 +12,6 @@ use Rattle.ios_route.specs.RouteParts.{HasHop}
 use Rattle.ios_route.proofs.RouteDistances.{DistanceFirst, first_distance, no_distance_option, distance_begins, begins_no_address, HopFirst, first_hop}
 use Rattle.ios_route.proofs.RouteExitWords.{ExitFirst, first_exit, no_exit, null_no_address}
 use Rattle.ios_route.proofs.RouteOptions.{option_word}
-
-number_is_one : (max : ℕ) (word : List ℕ) (m n : ℕ) → IsNumber max word m → IsNumber max word n → m ≡ n
-number_is_one max word m n is other = is.decimal.value ∙ sym other.decimal.value
 
 -- distances
 distance_left : (d : ℕ) (words : Words) → HasDistance false d words → words ≡ [] → d ≡ 1
@@ -70,20 +65,6 @@ exit_is_one to to' d d' (word ∷ rest) has other = by (first_exit false to d (w
     by (ExitFirst.to_out hop same interface behind) (ExitFirst.to_out hop' same' interface' behind') =
         let one = hop_is_one hop hop' d d' rest behind behind' in
         (same ∙ ap (λ (h : Option ℕ). exit.Out word h) one.0 ∙ sym same', one.1)
-
--- lengths of a prefix
-power_is_one : (i j : ℕ) → 2 ^ i ≡ 2 ^ j → i ≡ j
-power_is_one i j same = by (cases_order i j)
-  where
-    by : (i ≡ j) ⊎ ((i < j) ⊎ (j < i)) → i ≡ j
-    by (inl is) = is
-    by (inr (inl less)) = absurd (omega (arith, pow_below i j less))
-    by (inr (inr more)) = absurd (omega (arith, pow_below j i more))
-
-prefix_is_one : (mask m n : ℕ) → IsPrefixMask mask m → IsPrefixMask mask n → m ≡ n
-prefix_is_one mask m n is other =
-    let same = power_is_one (32 - m) (32 - n) (omega (arith, is.value, other.value)) in
-    omega (arith, same, is.few, other.few)
 
 -- routes
 pub route_is_one : (route other : StaticRoute) (words : Words) → route.line ≡ other.line → IsRoute false route words → IsRoute false other words → route ≡ other

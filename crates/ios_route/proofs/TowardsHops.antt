@@ -4,7 +4,7 @@ use Rattle.std.specs.List.{AllByRecursion, find, list_any}
 use Rattle.std.proofs.lemmas.Bool.{and_from, and_parts, or_from, or_left, or_parts, or_right}
 use Rattle.std.proofs.lemmas.Bool.Decides.{nat_tests}
 use Rattle.std.specs.Option.{option_and_then, option_map}
-use Rattle.ios_route.specs.declared.interface.Interface.{Interface}
+use Rattle.ios_route.specs.Interfaces.{Interface}
 use Rattle.ios_route.specs.declared.routes.Active.{Active}
 use Rattle.ios_route.specs.ActiveRoutes.{AreLengths, connected, connected_route, connected_routes, exit_towards}
 use Rattle.ios_route.specs.Best.{covers, is_best, is_better}
@@ -179,9 +179,9 @@ near_all (x ∷ xs) ys near more = (near.0, near_all xs ys near.1 more)
 near_of : (interface : Interface) → AreLengths interface → AllByRecursion IsNear (connected_routes interface)
 near_of interface lengths = by_case interface.shut
   where
-    by_case : (b : Bool) → AllByRecursion IsNear (cond b [] (map (connected_route interface) interface.addresses.items))
+    by_case : (b : Bool) → AllByRecursion IsNear (cond b [] (map (connected_route interface) interface.addresses))
     by_case true = tt
-    by_case false = near_routes interface interface.addresses.items lengths
+    by_case false = near_routes interface interface.addresses lengths
 
 pub connected_near : (interfaces : List Interface) → AllByRecursion AreLengths interfaces → AllByRecursion IsNear (connected interfaces)
 connected_near [] lengths = tt

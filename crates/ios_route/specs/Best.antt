@@ -12,11 +12,14 @@ covers address route = in_one_network route.len address route.prefix
 
 -- a longer prefix, or one as long and a smaller distance
 abbrev pub is_better : Active → Active → Bool
-is_better route other = nat_lt other.len route.len || (route.len == other.len && nat_lt route.distance other.distance)
+is_better route other =
+    nat_lt other.len route.len || (route.len == other.len && nat_lt route.distance other.distance)
 
 -- the route is for the address, and none of these that is for it is better
 abbrev pub is_best : List Active → ℕ → Active → Bool
-is_best routes address route = covers address route && not (list_any (λ other. covers address other && is_better other route) routes)
+is_best routes address route =
+    covers address route
+    && not (list_any (λ other. covers address other && is_better other route) routes)
 
 -- where a packet goes by the route: to the next hop that is written, or to its own address
 abbrev pub choice_by : ℕ → Active → Choice

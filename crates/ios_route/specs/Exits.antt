@@ -8,7 +8,7 @@ use Rattle.std.specs.List.{find}
 use Rattle.std.specs.Option.{option_map}
 use Rattle.ios_route.specs.declared.exits.Exits.{Exits}
 use Rattle.ios_route.specs.declared.exits.Outlet.{Outlet}
-use Rattle.ios_route.specs.declared.interface.Interface.{Interface}
+use Rattle.ios_route.specs.Interfaces.{Interface}
 use Rattle.ios_route.specs.declared.routes.Active.{Active}
 use Rattle.ios_route.specs.ActiveRoutes.{connected, named}
 use Rattle.ios_route.specs.Networks.{first_bits}
@@ -35,5 +35,9 @@ abbrev pub network_exit : Active → (ℕ × ℕ) × Option ℕ
 network_exit route = ((route.len, first_bits route.len route.prefix), route.exit)
 
 pub record AreExits (interfaces : List Interface) (exits : Exits) : Type 0 where
-  pub outlets : (name : Bor (List ℕ)) → get same_name exits.outlets name ≡ option_map outlet (named interfaces name.now)
-  pub networks : (network : ℕ × ℕ) → get same_network exits.networks network ≡ option_map (λ (route : Active). route.exit) (find (leads_to network) (connected interfaces))
+  pub outlets : (name : Bor (List ℕ))
+      → get same_name exits.outlets name ≡ option_map outlet (named interfaces name.now)
+  pub networks : (network : ℕ × ℕ)
+      → get same_network exits.networks network
+      ≡ option_map (λ (route : Active). route.exit)
+      (find (leads_to network) (connected interfaces))

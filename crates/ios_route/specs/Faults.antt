@@ -2,7 +2,7 @@
 use Rattle.std.specs.Prelude.{◌≡◌, ℕ, List, ◌∷◌, Option, Some, None}
 use Rattle.std.specs.List.{filter_map}
 use Rattle.std.specs.Option.{option_map_or}
-use Rattle.ios_route.specs.declared.interface.Interface.{Interface}
+use Rattle.ios_route.specs.Interfaces.{Interface}
 use Rattle.ios_route.specs.declared.routes.RouteFault.{RouteFault}
 use Rattle.ios_route.specs.declared.routes.RouteFault.TheVariants as fault
 use Rattle.ios_route.specs.declared.static_route.RouteExit.{RouteExit}
@@ -11,8 +11,10 @@ use Rattle.ios_route.specs.declared.static_route.StaticRoute.{StaticRoute}
 use Rattle.ios_route.specs.ActiveRoutes.{exit_towards, named}
 
 abbrev pub fault_towards : List Interface → ℕ → RouteExit → Option RouteFault
-fault_towards interfaces line (exit.Hop hop) = option_map_or (λ _. None) (exit_towards interfaces hop) (Some (fault.NextHopNotConnected line))
-fault_towards interfaces line (exit.Out name hop) = option_map_or (λ _. None) (named interfaces name) (Some (fault.UnknownInterface line))
+fault_towards interfaces line (exit.Hop hop) =
+    option_map_or (λ _. None) (exit_towards interfaces hop) (Some (fault.NextHopNotConnected line))
+fault_towards interfaces line (exit.Out name hop) =
+    option_map_or (λ _. None) (named interfaces name) (Some (fault.UnknownInterface line))
 fault_towards interfaces line exit.Null = None
 
 -- the fault of a static route, where it has one

@@ -1,4 +1,5 @@
 pub mod Networks
+pub mod Interfaces
 pub mod Best
 pub mod ActiveRoutes
 pub mod Faults

@@ -24,7 +24,8 @@ best_rank address routes = fold (rank_after address) None routes
 
 abbrev pub has_rank : ℕ → Option (ℕ × ℕ) → Active → Bool
 has_rank address None route = false
-has_rank address (Some best) route = covers address route && (route.len == best.0 && route.distance == best.1)
+has_rank address (Some best) route =
+    covers address route && (route.len == best.0 && route.distance == best.1)
 
 -- what the routes of this rank say
 abbrev pub choices_left : ℕ → Option (ℕ × ℕ) → List Active → List Choice

@@ -25,16 +25,20 @@ greatest_tag = 9999999999
 -- words without effect, in any order, each once at most: those that may still stand
 pub data AreOptions (lax : Bool) : Bool → Bool → Bool → Words → Type 0 where
   none : (permanent name tag : Bool) → AreOptions lax permanent name tag []
-  permanent : (name tag : Bool) (words : Words) → AreOptions lax false name tag words → AreOptions lax true name tag (codes "permanent" ∷ words)
-  name : (permanent tag : Bool) (word : List ℕ) (words : Words) → (lax ≡ false → IsNameBeside unmodelled word) → AreOptions lax permanent false tag words
+  permanent : (name tag : Bool) (words : Words) → AreOptions lax false name tag words
+      → AreOptions lax true name tag (codes "permanent" ∷ words)
+  name : (permanent tag : Bool) (word : List ℕ) (words : Words)
+      → (lax ≡ false → IsNameBeside unmodelled word) → AreOptions lax permanent false tag words
       → AreOptions lax permanent true tag (codes "name" ∷ word ∷ words)
-  tag : (permanent name : Bool) (word : List ℕ) (n : ℕ) (words : Words) → IsNumber greatest_tag word n → AreOptions lax permanent name false words
+  tag : (permanent name : Bool) (word : List ℕ) (n : ℕ) (words : Words)
+      → IsNumber greatest_tag word n → AreOptions lax permanent name false words
       → AreOptions lax permanent name true (codes "tag" ∷ word ∷ words)
 
 -- a distance from 1 to 254, and 1 where none is written
 pub data HasDistance (lax : Bool) : ℕ → Words → Type 0 where
   left_out : (words : Words) → AreOptions lax true true true words → HasDistance lax 1 words
-  written : (word : List ℕ) (n : ℕ) (words : Words) → IsNumber 254 word n → 1 ≤ n → AreOptions lax true true true words → HasDistance lax n (word ∷ words)
+  written : (word : List ℕ) (n : ℕ) (words : Words) → IsNumber 254 word n → 1 ≤ n
+      → AreOptions lax true true true words → HasDistance lax n (word ∷ words)
 
 -- the name of an interface: no address, and not that of dropped packets
 pub record IsInterface (lax : Bool) (word : List ℕ) : Type 0 where
@@ -43,10 +47,14 @@ pub record IsInterface (lax : Bool) (word : List ℕ) : Type 0 where
   pub name : lax ≡ false → IsNameBeside unmodelled word
 
 pub data HasExit (lax : Bool) : RouteExit → ℕ → Words → Type 0 where
-  hop : (word : List ℕ) (n distance : ℕ) (words : Words) → IsAddress word n → HasDistance lax distance words → HasExit lax (exit.Hop n) distance (word ∷ words)
-  null : (distance : ℕ) (words : Words) → HasDistance lax distance words → HasExit lax exit.Null distance (codes "Null0" ∷ words)
-  out : (name : List ℕ) (distance : ℕ) (words : Words) → IsInterface lax name → HasDistance lax distance words → HasExit lax (exit.Out name None) distance (name ∷ words)
-  out_to : (name word : List ℕ) (n distance : ℕ) (words : Words) → IsInterface lax name → IsAddress word n → HasDistance lax distance words
+  hop : (word : List ℕ) (n distance : ℕ) (words : Words) → IsAddress word n
+      → HasDistance lax distance words → HasExit lax (exit.Hop n) distance (word ∷ words)
+  null : (distance : ℕ) (words : Words) → HasDistance lax distance words
+      → HasExit lax exit.Null distance (codes "Null0" ∷ words)
+  out : (name : List ℕ) (distance : ℕ) (words : Words) → IsInterface lax name
+      → HasDistance lax distance words → HasExit lax (exit.Out name None) distance (name ∷ words)
+  out_to : (name word : List ℕ) (n distance : ℕ) (words : Words) → IsInterface lax name
+      → IsAddress word n → HasDistance lax distance words
       → HasExit lax (exit.Out name (Some n)) distance (name ∷ word ∷ words)
 
 -- the mask is so many ones and then zeros, and has all bits of the prefix

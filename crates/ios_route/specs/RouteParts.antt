@@ -1,15 +1,12 @@
 -- The parts of a route's line as kinds of words, whatever their values. Private calls are stated by them, and no public one.
-use Rattle.std.specs.Prelude.{◌≡◌, ◌⊎◌, ◌||◌, ℕ, ◌-◌, ◌≤◌, Bool, true, false, List, ◌∷◌, length, take, slice_get, Option, Some, None, codes}
+use Rattle.std.specs.Prelude.{◌≡◌, ◌⊎◌, ◌||◌, ℕ, ◌≤◌, Bool, true, false, List, ◌∷◌, Option, Some, None, codes}
 use Rattle.std.specs.Str.{bytes_eq}
 use Rattle.ios_lex.specs.Address.{IsAddress}
 use Rattle.ios_lex.specs.Decimal.{IsNumber}
 use Rattle.ios_lex.specs.declared.reason.IosReason.{IosReason}
-use Rattle.ios_lex.specs.declared.reason.IosReason.TheVariants as reason
 use Rattle.ios_lex.specs.declared.stop.Stop.{Stop}
 use Rattle.ios_lex.specs.Phrases.{Words}
-use Rattle.ios_lex.specs.Stops.{expected_of, is_lax}
-use Rattle.ios_route.specs.declared.route_line.LineFault.{LineFault}
-use Rattle.ios_route.specs.declared.route_line.LineFault.TheVariants as fault
+use Rattle.ios_lex.specs.Stops.{place_of, stop_reason}
 use Rattle.ios_route.specs.declared.route_line.Written.{Written}
 use Rattle.ios_route.specs.declared.route_line.WrittenExit.{WrittenExit}
 use Rattle.ios_route.specs.declared.route_line.WrittenExit.TheVariants as written
@@ -17,7 +14,7 @@ use Rattle.ios_route.specs.declared.static_route.RouteExit.{RouteExit}
 use Rattle.ios_route.specs.declared.static_route.RouteExit.TheVariants as exit
 use Rattle.ios_route.specs.declared.static_route.StaticRoute.{StaticRoute}
 use Rattle.ios_route.specs.RouteLines.{AreOptions, HasDistance, HasExit, IsMaskOf}
-use Rattle.ios_route.specs.RouteRefusals.{reason_at}
+use Rattle.ios_route.specs.RouteRefusals.{lax_reason, unmodelled_at}
 
 abbrev pub SomeOptions : Bool → Bool → Bool → Bool → Words → Type 0
 SomeOptions permanent name tag lax words = AreOptions lax permanent name tag words
@@ -27,8 +24,10 @@ SomeDistance lax words = (distance : ℕ) × HasDistance lax distance words
 
 -- what may stand behind the name of an interface
 pub data HasHop (lax : Bool) : Option ℕ → ℕ → Words → Type 0 where
-  none : (distance : ℕ) (words : Words) → HasDistance lax distance words → HasHop lax None distance words
-  some : (word : List ℕ) (n distance : ℕ) (words : Words) → IsAddress word n → HasDistance lax distance words → HasHop lax (Some n) distance (word ∷ words)
+  none : (distance : ℕ) (words : Words) → HasDistance lax distance words
+      → HasHop lax None distance words
+  some : (word : List ℕ) (n distance : ℕ) (words : Words) → IsAddress word n
+      → HasDistance lax distance words → HasHop lax (Some n) distance (word ∷ words)
 
 abbrev pub SomeHop : Bool → Words → Type 0
 SomeHop lax words = (hop : Option ℕ) × (distance : ℕ) × HasHop lax hop distance words
@@ -37,7 +36,8 @@ abbrev pub SomeExit : Bool → Words → Type 0
 SomeExit lax words = (exit : RouteExit) × (distance : ℕ) × HasExit lax exit distance words
 
 -- what may stand behind a prefix
-pub record HasMask (lax : Bool) (prefix len : ℕ) (exit : RouteExit) (distance : ℕ) (words : Words) : Type 0 where
+pub record HasMask (lax : Bool) (prefix len : ℕ) (exit : RouteExit)
+    (distance : ℕ) (words : Words) : Type 0 where
   pub word : List ℕ
   pub mask : ℕ
   pub more : Words
@@ -47,11 +47,14 @@ pub record HasMask (lax : Bool) (prefix len : ℕ) (exit : RouteExit) (distance 
   pub behind : HasExit lax exit distance more
 
 abbrev pub SomeMask : ℕ → Bool → Words → Type 0
-SomeMask prefix lax words = (len : ℕ) × (exit : RouteExit) × (distance : ℕ) × HasMask lax prefix len exit distance words
+SomeMask prefix lax words =
+    (len : ℕ) × (exit : RouteExit) × (distance : ℕ) × HasMask lax prefix len exit distance words
 
 -- a word of the options
 abbrev pub is_option : List ℕ → Bool
-is_option word = bytes_eq word (codes "permanent") || (bytes_eq word (codes "name") || bytes_eq word (codes "tag"))
+is_option word =
+    bytes_eq word (codes "permanent")
+    || (bytes_eq word (codes "name") || bytes_eq word (codes "tag"))
 
 abbrev pub IsDistance : List ℕ → ℕ → Type 0
 IsDistance word n = IsNumber 254 word n × (1 ≤ n)
@@ -67,17 +70,15 @@ exit_of (written.Out name hop) = exit.Out name.now hop
 exit_of written.Null = exit.Null
 
 abbrev pub route_of : ℕ → Written → StaticRoute
-route_of line found = record { line = line; prefix = found.prefix; len = found.len; exit = exit_of found.exit; distance = found.distance }
+route_of line found = record {
+  line = line;
+  prefix = found.prefix;
+  len = found.len;
+  exit = exit_of found.exit;
+  distance = found.distance;
+}
 
--- the fault has this reason, unless memory is wanting
-abbrev pub IsFor : IosReason → LineFault → Type 0
-IsFor why (fault.Refused given) = given ≡ why
-IsFor why fault.NoMemory = Unit {0}
-
--- the reason of a stop at this word
-abbrev pub reason_before : Words → Stop → Option (List ℕ) → IosReason
-reason_before front stop None = reason.BadEntry
-reason_before front stop (Some word) = reason_at front (expected_of stop.due) (is_lax stop.due) word
-
-abbrev pub stop_reason : Words → Stop → IosReason
-stop_reason words stop = reason_before (take (length words - stop.left) words) stop (slice_get words (length words - stop.left))
+-- the reason of a stop in the words
+abbrev pub line_reason : Words → Stop → IosReason
+line_reason words stop =
+    stop_reason (unmodelled_at (place_of words stop)) (lax_reason (place_of words stop)) words stop

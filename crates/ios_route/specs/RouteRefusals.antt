@@ -7,20 +7,26 @@ use Rattle.ios_lex.specs.Following.{Begins, Expected, StopsAt}
 use Rattle.ios_lex.specs.NextWords.{NoName}
 use Rattle.ios_lex.specs.Phrases.{Words}
 use Rattle.ios_lex.specs.Refusal.{reason_of, table_at}
-use Rattle.ios_route.specs.declared.route_line.LineFault.{LineFault}
-use Rattle.ios_route.specs.declared.route_line.LineFault.TheVariants as fault
+use Rattle.ios_lex.specs.declared.fault.LineFault.{LineFault}
+use Rattle.ios_lex.specs.declared.fault.LineFault.TheVariants as fault
 use Rattle.ios_route.specs.RouteLines.{Line, unmodelled, unmodelled_first}
 
 -- an address that is no mask is refused for that where the mask stands, and elsewhere a word that is no name
 abbrev pub lax_reason : ℕ → IosReason
 lax_reason place = if place == 1 then reason.BadMask else reason.BadEntry
 
+-- the words that are not modelled at a place
+abbrev pub unmodelled_at : ℕ → Words
+unmodelled_at place = table_at 1 unmodelled_first unmodelled place
+
 abbrev pub reason_at : Words → Expected → Bool → List ℕ → IosReason
-reason_at front expected over word = reason_of (table_at 1 unmodelled_first unmodelled (length front)) (lax_reason (length front)) expected over word
+reason_at front expected over word =
+    reason_of (unmodelled_at (length front)) (lax_reason (length front)) expected over word
 
 pub data IsRefused (words : Words) : IosReason → Type 0 where
   -- no route goes on with a word
-  stop : (front more : Words) (word : List ℕ) (expected : Expected) (over : Bool) → words ≡ front ++ word ∷ more → StopsAt NoName Line front word expected over
+  stop : (front more : Words) (word : List ℕ) (expected : Expected) (over : Bool)
+      → words ≡ front ++ word ∷ more → StopsAt NoName Line front word expected over
       → IsRefused words (reason_at front expected over word)
   -- the line ends too early
   short : Begins (Line false) words → (Line false words → ⊥) → IsRefused words reason.BadEntry

@@ -1,6 +1,6 @@
 ghost use Rattle.std.specs.Prelude.{◌≡◌, List, map, Some, None, IfOk, IfErr};
 ghost use Rattle.std.specs.List.{AllByRecursion};
-ghost use Rattle.ios_route.specs.declared.interface.Interface.{Interface as InterfaceValue};
+ghost use Rattle.ios_route.specs.Interfaces.{Interface as InterfaceValue};
 ghost use Rattle.ios_route.specs.ActiveRoutes as specs;
 ghost use Rattle.ios_route.specs.ActiveRoutes.{active_static, AreLengths, exit_towards};
 ghost use Rattle.ios_route.specs.Exits.{AreExits, named_outlet, network_exit, outlet as outlet_of};
@@ -50,9 +50,12 @@ impl<'a> Exits<'a> {
 
     /// The static route as an active one, where it is one; refused where it leads nowhere.
     pub fn active(&self, route: &StaticRoute) -> Result<Option<Active>, RouteFault>
-        ensures active { (interfaces : List InterfaceValue) → AreExits interfaces self.now → AllByRecursion AreLengths interfaces
-            → IfOk result (λ found. (found ≡ active_static interfaces route.now) × (fault_of interfaces route.now ≡ None)) }
-        ensures refused { (interfaces : List InterfaceValue) → AreExits interfaces self.now → AllByRecursion AreLengths interfaces
+        ensures active { (interfaces : List InterfaceValue) → AreExits interfaces self.now
+            → AllByRecursion AreLengths interfaces
+            → IfOk result (λ found. (found ≡ active_static interfaces route.now)
+            × (fault_of interfaces route.now ≡ None)) }
+        ensures refused { (interfaces : List InterfaceValue) → AreExits interfaces self.now
+            → AllByRecursion AreLengths interfaces
             → IfErr result (λ fault. fault_of interfaces route.now ≡ Some fault) }
     {
         match &route.exit {
@@ -70,7 +73,8 @@ impl<'a> Exits<'a> {
 
     /// The interface in whose network the next hop lies: the first of the longest such networks.
     fn towards(&self, hop: u32) -> Option<u16>
-        ensures { (interfaces : List InterfaceValue) → AreExits interfaces self.now → AllByRecursion AreLengths interfaces
+        ensures { (interfaces : List InterfaceValue) → AreExits interfaces self.now
+            → AllByRecursion AreLengths interfaces
             → result ≡ exit_towards interfaces hop }
     {
         for zeros in 0..=32u8 {
@@ -98,7 +102,8 @@ fn leading(route: &StaticRoute, exit: Option<u16>, hop: Option<u32>) -> Active
 
 /// The static route out of an interface, unless that is shut down.
 fn out_of(route: &StaticRoute, hop: Option<u32>, outlet: Outlet) -> Option<Active>
-    ensures { (interface : InterfaceValue) → outlet ≡ outlet_of interface → result ≡ specs.out_of route.now hop interface }
+    ensures { (interface : InterfaceValue) → outlet ≡ outlet_of interface
+        → result ≡ specs.out_of route.now hop interface }
 {
     if outlet.shut {
         None
@@ -109,7 +114,9 @@ fn out_of(route: &StaticRoute, hop: Option<u32>, outlet: Outlet) -> Option<Activ
 
 /// The name of each interface, and what routes need of it.
 fn names(alloc: Global, interfaces: &[Interface]) -> Result<Vec<(&[u8], Outlet)>, AllocError>
-    ensures { IfOk result (λ names. map (λ entry. (entry.0.now, entry.1)) names.items ≡ map named_outlet interfaces.now) }
+    ensures { IfOk result
+        (λ names. map (λ entry. (entry.0.now, entry.1)) names.items
+        ≡ map named_outlet interfaces.now) }
 {
     let mut names = Vec::new(alloc);
     for interface in interfaces {

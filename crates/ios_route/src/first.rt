@@ -11,7 +11,8 @@ pub fn first_of_each<K: Eq + Hash + Copy + Drop, V: Copy + Drop>(
     alloc: Global,
     entries: &[(K, V)],
 ) -> Result<HashMap<K, V>, AllocError>
-    ensures { IfOk result (λ first. (key : K) → get K.eq first key ≡ lookup (K.eq key) entries.now) }
+    ensures { IfOk result
+        (λ first. (key : K) → get K.eq first key ≡ lookup (K.eq key) entries.now) }
 {
     let mut first = HashMap::new(alloc);
     let mut rest = entries;

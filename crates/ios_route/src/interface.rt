@@ -1,4 +1,5 @@
 use ios_lex::Word;
+use std::marker::Model;
 
 /// On which side of address translation an interface lies.
 #[derive(Clone, Copy, Debug, PartialEq, Eq)]
@@ -22,4 +23,20 @@ pub struct Interface {
     pub list_out: Option<Word>,
     pub mark: NatMark,
     pub shut: bool,
+}
+
+impl Model for Interface {
+    ghost use Rattle.ios_route.specs.Interfaces.{Interface as InterfaceValue};
+
+    ghost Value = { InterfaceValue };
+
+    ghost view = { λ i. record {
+      name = i.name;
+      number = i.number;
+      addresses = i.addresses.items;
+      list_in = i.list_in;
+      list_out = i.list_out;
+      mark = i.mark;
+      shut = i.shut;
+    } };
 }

@@ -20,8 +20,9 @@ mod static_route;
 
 pub use best::{Choice, RouteChoices};
 pub use interface::{Interface, NatMark};
+pub use ios_lex::LineFault;
 pub use laws::one_route;
-pub use route_line::{LineFault, read_route};
+pub use route_line::read_route;
 pub use routes::{Active, RouteFault, Routes};
 pub use static_route::{RouteExit, StaticRoute};
 pub use std::alloc::AllocError as NoMemory;

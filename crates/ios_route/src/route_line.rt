@@ -1,9 +1,9 @@
 ghost use Rattle.std.specs.Prelude.{◌≡◌, ◌≤◌, ℕ, false, length, IfOk, IfErr, IfSome, IfNone};
 ghost use Rattle.ios_lex.specs.NextWords.{NoName};
 ghost use Rattle.ios_lex.specs.Stops.{IsStop};
-ghost use Rattle.ios_route.specs.declared.route_line.LineFault.TheVariants as faults;
 ghost use Rattle.ios_route.specs.RouteLines.{HasExit, IsMaskOf, IsRoute, Line};
-ghost use Rattle.ios_route.specs.RouteParts.{exit_of, HasMask, IsFor, route_of, SomeExit, SomeMask, stop_reason};
+ghost use Rattle.ios_route.specs.RouteParts as parts;
+ghost use Rattle.ios_route.specs.RouteParts.{exit_of, HasMask, route_of, SomeExit, SomeMask};
 ghost use Rattle.ios_route.specs.RouteRefusals.{IsFault};
 ghost use Rattle.ios_route.specs.RouteRefusals as specs;
 
@@ -11,17 +11,10 @@ use crate::network::network;
 use crate::route_end::{UNMODELLED, distance_end, hop_end};
 use crate::static_route::{RouteExit, StaticRoute};
 use ios_lex::{
-    Due, IosReason, Stop, Word, address, is_name_beside, prefix_len, reason_of, stop_before,
-    table_at,
+    Due, IosReason, LineFault, Stop, Word, address, is_name_beside, prefix_len, stop_before,
+    stop_reason, table_at,
 };
 use std::alloc::{AllocError, Global};
-
-/// Why a line of a static route is refused.
-#[derive(Debug, Drop)]
-pub enum LineFault {
-    Refused(IosReason),
-    NoMemory,
-}
 
 /// The exit of a route, as words say it.
 #[derive(Clone, Copy, Debug)]
@@ -50,14 +43,15 @@ pub fn read_route(alloc: Global, line: u64, words: &[Word]) -> Result<StaticRout
     ensures refused { IfErr result (IsFault words.now) }
 {
     match spelled(words) {
-        Ok(found) => kept(alloc, line, found),
-        Err(stop) => Err(fault_of(alloc, words, stop)),
+        Ok(found) => Ok(kept(alloc, line, found)?),
+        Err(stop) => Err(LineFault::Refused(line_reason(alloc, words, stop)?)),
     }
 }
 
 /// The route that the words say.
 fn spelled(words: &[Word]) -> Result<Written<'_>, Stop>
-    ensures read { (line : ℕ) → IfOk result (λ found. IsRoute false (route_of line found) words.now) }
+    ensures read { (line : ℕ)
+        → IfOk result (λ found. IsRoute false (route_of line found) words.now) }
     ensures stop { IfErr result (IsStop NoName Line words.now) }
 {
     let Some((first, rest)) = words.split_first() else {
@@ -77,7 +71,8 @@ fn spelled(words: &[Word]) -> Result<Written<'_>, Stop>
 
 /// The length of the prefix that the words say, and the exit and the distance behind it.
 fn mask_end(prefix: u32, words: &[Word]) -> Result<(u8, WrittenExit<'_>, u8), Stop>
-    ensures read { IfOk result (λ found. HasMask false prefix found.0 (exit_of found.1) found.2 words.now) }
+    ensures read { IfOk result
+        (λ found. HasMask false prefix found.0 (exit_of found.1) found.2 words.now) }
     ensures stop { IfErr result (IsStop NoName (SomeMask prefix) words.now) }
 {
     let Some((first, rest)) = words.split_first() else {
@@ -130,20 +125,17 @@ fn exit_end(words: &[Word]) -> Result<(WrittenExit<'_>, u8), Stop>
 }
 
 /// The route that is written, with the number of its line.
-fn kept(alloc: Global, line: u64, found: Written<'_>) -> Result<StaticRoute, LineFault>
-    ensures read { IfOk result (λ route. route ≡ route_of line found.entry) }
-    ensures memory { IfErr result (λ fault. fault ≡ faults.NoMemory) }
+fn kept(alloc: Global, line: u64, found: Written<'_>) -> Result<StaticRoute, AllocError>
+    ensures { IfOk result (λ route. route ≡ route_of line found.entry) }
 {
-    match kept_exit(alloc, found.exit) {
-        Ok(exit) => Ok(StaticRoute {
-            line,
-            prefix: found.prefix,
-            len: found.len,
-            exit,
-            distance: found.distance,
-        }),
-        Err(_) => Err(LineFault::NoMemory),
-    }
+    let exit = kept_exit(alloc, found.exit)?;
+    Ok(StaticRoute {
+        line,
+        prefix: found.prefix,
+        len: found.len,
+        exit,
+        distance: found.distance,
+    })
 }
 
 /// The exit that is written, with a copy of its name.
@@ -157,17 +149,14 @@ fn kept_exit(alloc: Global, exit: WrittenExit<'_>) -> Result<RouteExit, AllocErr
     }
 }
 
-/// The fault of a stop in the words behind `ip route`.
-fn fault_of(alloc: Global, words: &[Word], stop: Stop) -> LineFault
+/// The reason of a stop in the words behind `ip route`.
+fn line_reason(alloc: Global, words: &[Word], stop: Stop) -> Result<IosReason, AllocError>
     requires { stop.left ≤ length words.now }
-    ensures { IsFor (stop_reason words.now stop) result }
+    ensures { IfOk result (λ why. why ≡ parts.line_reason words.now stop) }
 {
-    if stop.left == 0 {
-        return LineFault::Refused(IosReason::BadEntry);
-    }
     let place = words.len() - stop.left;
     let table = table_at(1, &UNMODELLED_FIRST, &UNMODELLED, place);
-    fault(reason_of(alloc, &words[place], table, stop.due, lax_reason(place)))
+    stop_reason(alloc, words, stop, table, lax_reason(place))
 }
 
 /// The reason of a word with which a line that is lax goes on.
@@ -178,16 +167,5 @@ fn lax_reason(place: usize) -> IosReason
         IosReason::BadMask
     } else {
         IosReason::BadEntry
-    }
-}
-
-/// The fault of this reason, or that memory is wanting.
-fn fault(reason: Result<IosReason, AllocError>) -> LineFault
-    ensures refused { IfOk reason (λ why. result ≡ faults.Refused why) }
-    ensures memory { IfErr reason (λ _. result ≡ faults.NoMemory) }
-{
-    match reason {
-        Ok(why) => LineFault::Refused(why),
-        Err(_) => LineFault::NoMemory,
     }
 }

@@ -16,21 +16,6 @@ use Rattle.query_lang.specs.declared.formula.Named.{Named}
 use Rattle.query_lang.specs.declared.script.Explore.{Explore}
 use Rattle.query_lang.proofs.Leading.{Leads}
 
-pub variable_read : (variable : List ℕ) (sort : List ℕ) (t0 t1 t2 t3 : Tokens) → Goes (List ℕ) (State.want Due.name) variable t0 t1 → Goes (Unit {0}) (State.want (Due.sign sign_of.Colon)) tt t1 t2 → Goes (List ℕ) (State.want Due.name) sort t2 t3 → Goes (List ℕ × List ℕ) Steps.variable (variable, sort) t0 t3
-variable_read variable sort t0 t1 t2 t3 h0 h1 h2 = record { goes = λ k. h0.goes (λ variable. State.want (Due.sign sign_of.Colon) (λ _. State.want Due.name (λ sort. k (variable, sort)))) ∙ h1.goes (λ _. State.want Due.name (λ sort. k (variable, sort))) ∙ h2.goes (λ sort. k (variable, sort)) }
-
-pub variable_stops0 : (t0 tokens : Tokens) (s : Stop) → Halts (List ℕ) (State.want Due.name) t0 tokens s → Halts (List ℕ × List ℕ) Steps.variable t0 tokens s
-variable_stops0 t0 tokens (stop.Refused at why) h = record { stops = λ k. h.stops (λ variable. State.want (Due.sign sign_of.Colon) (λ _. State.want Due.name (λ sort. k (variable, sort)))) }
-variable_stops0 t0 tokens stop.NoMemory h = tt
-
-pub variable_stops1 : (variable : List ℕ) (t0 t1 tokens : Tokens) (s : Stop) → Goes (List ℕ) (State.want Due.name) variable t0 t1 → Halts (Unit {0}) (State.want (Due.sign sign_of.Colon)) t1 tokens s → Halts (List ℕ × List ℕ) Steps.variable t0 tokens s
-variable_stops1 variable t0 t1 tokens (stop.Refused at why) h0 h = record { stops = λ k. h0.goes (λ variable. State.want (Due.sign sign_of.Colon) (λ _. State.want Due.name (λ sort. k (variable, sort)))) ∙ h.stops (λ _. State.want Due.name (λ sort. k (variable, sort))) }
-variable_stops1 variable t0 t1 tokens stop.NoMemory h0 h = tt
-
-pub variable_stops2 : (variable : List ℕ) (t0 t1 t2 tokens : Tokens) (s : Stop) → Goes (List ℕ) (State.want Due.name) variable t0 t1 → Goes (Unit {0}) (State.want (Due.sign sign_of.Colon)) tt t1 t2 → Halts (List ℕ) (State.want Due.name) t2 tokens s → Halts (List ℕ × List ℕ) Steps.variable t0 tokens s
-variable_stops2 variable t0 t1 t2 tokens (stop.Refused at why) h0 h1 h = record { stops = λ k. h0.goes (λ variable. State.want (Due.sign sign_of.Colon) (λ _. State.want Due.name (λ sort. k (variable, sort)))) ∙ h1.goes (λ _. State.want Due.name (λ sort. k (variable, sort))) ∙ h.stops (λ sort. k (variable, sort)) }
-variable_stops2 variable t0 t1 t2 tokens stop.NoMemory h0 h1 h = tt
-
 -- where no part follows, the end is due
 vars_closes : (parts : List (List ℕ × List ℕ)) (mid : Tokens) → NoSign sign_of.Comma mid → (k : Behind (List (List ℕ × List ℕ))) → outcome strict mid (State.want (Due.more_vars parts) k) ≡ outcome strict mid (State.want (Due.sign sign_of.CloseBracket) (λ _. k parts))
 vars_closes parts mid none k = skipped strict (is_sign sign_of.Comma) (State.want (Due.more_vars parts) k) (State.want (Due.sign sign_of.CloseBracket) (λ _. k parts)) refl (λ line t e. left_out strict (is_sign sign_of.Comma t) _ _ e) mid none.away
@@ -129,21 +114,48 @@ include_stops1 first t0 t1 t2 tokens stop.NoMemory s g h = tt
 pub include_none : (t0 : Tokens) → NoWord keyword.Include t0 → Goes (List Named) (State.want Due.include) [] t0 t0
 include_none t0 none = record { goes = λ k. skipped strict (is_word keyword.Include) (State.want Due.include k) (k []) refl (λ line t e. left_out strict (is_word keyword.Include t) _ _ e) t0 none.away }
 
-pub explore_read : (vars : List (List ℕ × List ℕ)) (formula : Named) (under : List (List ℕ)) (include : List Named) (t0 t1 t2 t3 t4 : Tokens) → Goes (List (List ℕ × List ℕ)) (State.want Due.vars) vars t0 t1 → Goes Named (Steps.an_equivalence 0 []) formula t1 t2 → Goes (List (List ℕ)) (State.want Due.under) under t2 t3 → Goes (List Named) (State.want Due.include) include t3 t4 → Goes Explore Steps.explore (record { vars = vars; formula = formula; under = under; include = include }) t0 t4
-explore_read vars formula under include t0 t1 t2 t3 t4 h0 h1 h2 h3 = record { goes = λ k. h0.goes (λ vars. Steps.an_equivalence 0 [] (λ formula. State.want Due.under (λ under. State.want Due.include (λ include. k (record { vars = vars; formula = formula; under = under; include = include }))))) ∙ h1.goes (λ formula. State.want Due.under (λ under. State.want Due.include (λ include. k (record { vars = vars; formula = formula; under = under; include = include })))) ∙ h2.goes (λ under. State.want Due.include (λ include. k (record { vars = vars; formula = formula; under = under; include = include }))) ∙ h3.goes (λ include. k (record { vars = vars; formula = formula; under = under; include = include })) }
+pub shown_read : (under : List (List ℕ)) (include : List Named) (t0 t1 t2 : Tokens)
+    → Goes (List (List ℕ)) (State.want Due.under) under t0 t1 → Goes (List Named) (State.want Due.include) include t1 t2
+    → Goes (List (List ℕ) × List Named) Steps.shown (under, include) t0 t2
+shown_read under include t0 t1 t2 h0 h1 = record { goes = λ k. h0.goes (λ under. State.want Due.include (λ include. k (under, include))) ∙ h1.goes (λ include. k (under, include)) }
+
+pub shown_stops0 : (t0 tokens : Tokens) (s : Stop) → Halts (List (List ℕ)) (State.want Due.under) t0 tokens s → Halts (List (List ℕ) × List Named) Steps.shown t0 tokens s
+shown_stops0 t0 tokens (stop.Refused at why) h = record { stops = λ k. h.stops (λ under. State.want Due.include (λ include. k (under, include))) }
+shown_stops0 t0 tokens stop.NoMemory h = tt
+
+pub shown_stops1 : (under : List (List ℕ)) (t0 t1 tokens : Tokens) (s : Stop)
+    → Goes (List (List ℕ)) (State.want Due.under) under t0 t1 → Halts (List Named) (State.want Due.include) t1 tokens s
+    → Halts (List (List ℕ) × List Named) Steps.shown t0 tokens s
+shown_stops1 under t0 t1 tokens (stop.Refused at why) h0 h = record { stops = λ k. h0.goes (λ under. State.want Due.include (λ include. k (under, include))) ∙ h.stops (λ include. k (under, include)) }
+shown_stops1 under t0 t1 tokens stop.NoMemory h0 h = tt
+
+-- what is due behind the formula, and before it
+abbrev behind_formula : Behind Explore → List (List ℕ × List ℕ) → Named → State
+behind_formula k vars formula = Steps.shown (λ all. k (record { vars = vars; formula = formula; under = all.0; include = all.1 }))
+
+abbrev behind_vars : Behind Explore → List (List ℕ × List ℕ) → State
+behind_vars k vars = Steps.an_equivalence 0 [] (behind_formula k vars)
+
+pub explore_read : (vars : List (List ℕ × List ℕ)) (formula : Named) (under : List (List ℕ)) (include : List Named) (t0 t1 t2 t3 : Tokens)
+    → Goes (List (List ℕ × List ℕ)) (State.want Due.vars) vars t0 t1 → Goes Named (Steps.an_equivalence 0 []) formula t1 t2
+    → Goes (List (List ℕ) × List Named) Steps.shown (under, include) t2 t3
+    → Goes Explore Steps.explore (record { vars = vars; formula = formula; under = under; include = include }) t0 t3
+explore_read vars formula under include t0 t1 t2 t3 h0 h1 h2 =
+    record { goes = λ k. h0.goes (behind_vars k) ∙ h1.goes (behind_formula k vars) ∙ h2.goes (λ all. k (record { vars = vars; formula = formula; under = all.0; include = all.1 })) }
 
 pub explore_stops0 : (t0 tokens : Tokens) (s : Stop) → Halts (List (List ℕ × List ℕ)) (State.want Due.vars) t0 tokens s → Halts Explore Steps.explore t0 tokens s
-explore_stops0 t0 tokens (stop.Refused at why) h = record { stops = λ k. h.stops (λ vars. Steps.an_equivalence 0 [] (λ formula. State.want Due.under (λ under. State.want Due.include (λ include. k (record { vars = vars; formula = formula; under = under; include = include }))))) }
+explore_stops0 t0 tokens (stop.Refused at why) h = record { stops = λ k. h.stops (behind_vars k) }
 explore_stops0 t0 tokens stop.NoMemory h = tt
 
-pub explore_stops1 : (vars : List (List ℕ × List ℕ)) (t0 t1 tokens : Tokens) (s : Stop) → Goes (List (List ℕ × List ℕ)) (State.want Due.vars) vars t0 t1 → Halts Named (Steps.an_equivalence 0 []) t1 tokens s → Halts Explore Steps.explore t0 tokens s
-explore_stops1 vars t0 t1 tokens (stop.Refused at why) h0 h = record { stops = λ k. h0.goes (λ vars. Steps.an_equivalence 0 [] (λ formula. State.want Due.under (λ under. State.want Due.include (λ include. k (record { vars = vars; formula = formula; under = under; include = include }))))) ∙ h.stops (λ formula. State.want Due.under (λ under. State.want Due.include (λ include. k (record { vars = vars; formula = formula; under = under; include = include })))) }
+pub explore_stops1 : (vars : List (List ℕ × List ℕ)) (t0 t1 tokens : Tokens) (s : Stop)
+    → Goes (List (List ℕ × List ℕ)) (State.want Due.vars) vars t0 t1 → Halts Named (Steps.an_equivalence 0 []) t1 tokens s
+    → Halts Explore Steps.explore t0 tokens s
+explore_stops1 vars t0 t1 tokens (stop.Refused at why) h0 h = record { stops = λ k. h0.goes (behind_vars k) ∙ h.stops (behind_formula k vars) }
 explore_stops1 vars t0 t1 tokens stop.NoMemory h0 h = tt
 
-pub explore_stops2 : (vars : List (List ℕ × List ℕ)) (formula : Named) (t0 t1 t2 tokens : Tokens) (s : Stop) → Goes (List (List ℕ × List ℕ)) (State.want Due.vars) vars t0 t1 → Goes Named (Steps.an_equivalence 0 []) formula t1 t2 → Halts (List (List ℕ)) (State.want Due.under) t2 tokens s → Halts Explore Steps.explore t0 tokens s
-explore_stops2 vars formula t0 t1 t2 tokens (stop.Refused at why) h0 h1 h = record { stops = λ k. h0.goes (λ vars. Steps.an_equivalence 0 [] (λ formula. State.want Due.under (λ under. State.want Due.include (λ include. k (record { vars = vars; formula = formula; under = under; include = include }))))) ∙ h1.goes (λ formula. State.want Due.under (λ under. State.want Due.include (λ include. k (record { vars = vars; formula = formula; under = under; include = include })))) ∙ h.stops (λ under. State.want Due.include (λ include. k (record { vars = vars; formula = formula; under = under; include = include }))) }
+pub explore_stops2 : (vars : List (List ℕ × List ℕ)) (formula : Named) (t0 t1 t2 tokens : Tokens) (s : Stop)
+    → Goes (List (List ℕ × List ℕ)) (State.want Due.vars) vars t0 t1 → Goes Named (Steps.an_equivalence 0 []) formula t1 t2
+    → Halts (List (List ℕ) × List Named) Steps.shown t2 tokens s → Halts Explore Steps.explore t0 tokens s
+explore_stops2 vars formula t0 t1 t2 tokens (stop.Refused at why) h0 h1 h =
+    record { stops = λ k. h0.goes (behind_vars k) ∙ h1.goes (behind_formula k vars) ∙ h.stops (λ all. k (record { vars = vars; formula = formula; under = all.0; include = all.1 })) }
 explore_stops2 vars formula t0 t1 t2 tokens stop.NoMemory h0 h1 h = tt
-
-pub explore_stops3 : (vars : List (List ℕ × List ℕ)) (formula : Named) (under : List (List ℕ)) (t0 t1 t2 t3 tokens : Tokens) (s : Stop) → Goes (List (List ℕ × List ℕ)) (State.want Due.vars) vars t0 t1 → Goes Named (Steps.an_equivalence 0 []) formula t1 t2 → Goes (List (List ℕ)) (State.want Due.under) under t2 t3 → Halts (List Named) (State.want Due.include) t3 tokens s → Halts Explore Steps.explore t0 tokens s
-explore_stops3 vars formula under t0 t1 t2 t3 tokens (stop.Refused at why) h0 h1 h2 h = record { stops = λ k. h0.goes (λ vars. Steps.an_equivalence 0 [] (λ formula. State.want Due.under (λ under. State.want Due.include (λ include. k (record { vars = vars; formula = formula; under = under; include = include }))))) ∙ h1.goes (λ formula. State.want Due.under (λ under. State.want Due.include (λ include. k (record { vars = vars; formula = formula; under = under; include = include })))) ∙ h2.goes (λ under. State.want Due.include (λ include. k (record { vars = vars; formula = formula; under = under; include = include }))) ∙ h.stops (λ include. k (record { vars = vars; formula = formula; under = under; include = include })) }
-explore_stops3 vars formula under t0 t1 t2 t3 tokens stop.NoMemory h0 h1 h2 h = tt

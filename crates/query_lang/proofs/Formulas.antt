@@ -1,5 +1,5 @@
 -- Formulas, as the reader takes them.
-use Rattle.std.proofs.Common.{◌≡◌, ℕ, suc, add-one, ◌+◌, ◌<◌, ◌≤◌, false, List, [], ◌∷◌, ◌++◌, refl, ap, ◌∙◌}
+use Rattle.std.proofs.Common.{◌≡◌, ℕ, suc, add-one, ◌+◌, ◌<◌, ◌≤◌, true, false, List, [], ◌∷◌, ◌++◌, refl, ap, ◌∙◌}
 use Rattle.query_tokens.specs.declared.keyword.Keyword.{Keyword}
 use Rattle.query_tokens.specs.declared.keyword.Keyword.TheVariants as keyword
 use Rattle.query_tokens.specs.declared.token.Sign.TheVariants as sign_of
@@ -33,55 +33,45 @@ pub not_stops : (level : ℕ) (t0 t1 tokens : Tokens) (s : Stop) → Starts (tok
 not_stops level t0 t1 tokens (stop.Refused at why) s less h = record { stops = λ k. not_step level t0 t1 k s less ∙ h.stops (λ body. k (named.Not body)) }
 not_stops level t0 t1 tokens stop.NoMemory s less h = tt
 
-pub forall_deep : (level : ℕ) (t0 t1 : Tokens) → Starts (token.Keyword keyword.Forall) t0 t1 → 64 ≤ level → Stops Named (State.want (Due.unary level)) t0 t0 reason.Depth
-forall_deep level t0 t1 s more = rw s.is (record { stops = λ k. too_deep t1 (State.want Due.name (λ variable. State.want (Due.sign sign_of.Colon) (λ _. State.want Due.name (λ sort. State.want (Due.unary (suc level)) (λ body. k (named.Forall variable sort body)))))) s.line (token.Keyword keyword.Forall) level more })
+-- what is due behind the variable of a quantifier
+abbrev quantified_body : ℕ → Keyword → Behind Named → List ℕ × List ℕ → State
+quantified_body level w k bound = State.want (Due.unary level) (λ body. k (Steps.quantify w bound.0 bound.1 body))
 
-forall_step : (level : ℕ) (t0 t1 : Tokens) (k : Behind Named) → Starts (token.Keyword keyword.Forall) t0 t1 → level < 64 → outcome strict t0 (State.want (Due.unary level) k) ≡ outcome strict t1 (State.want Due.name (λ variable. State.want (Due.sign sign_of.Colon) (λ _. State.want Due.name (λ sort. State.want (Due.unary ((level + 1))) (λ body. k (named.Forall variable sort body))))))
-forall_step level t0 t1 k s less = rw (s.is, add-one level) (opened t1 (State.want Due.name (λ variable. State.want (Due.sign sign_of.Colon) (λ _. State.want Due.name (λ sort. State.want (Due.unary (suc level)) (λ body. k (named.Forall variable sort body)))))) s.line (token.Keyword keyword.Forall) level less)
+by_quantifier : (level : ℕ) (w : Keyword) (k : Behind Named) → Steps.is_quantifier w ≡ true → Steps.unary_word level k w ≡ Moved.opens level (Steps.variable (quantified_body (suc level) w k))
+by_quantifier level keyword.Forall k is = refl
+by_quantifier level keyword.Exists k is = refl
+by_quantifier level w k is = absurd (cc is)
 
-pub forall_read : (level : ℕ) (variable : List ℕ) (sort : List ℕ) (body : Named) (t0 t1 t2 t3 t4 t5 : Tokens) → Starts (token.Keyword keyword.Forall) t0 t1 → level < 64 → Goes (List ℕ) (State.want Due.name) variable t1 t2 → Goes (Unit {0}) (State.want (Due.sign sign_of.Colon)) tt t2 t3 → Goes (List ℕ) (State.want Due.name) sort t3 t4 → Goes (Named) (State.want (Due.unary (level + 1))) body t4 t5 → Goes Named (State.want (Due.unary level)) (named.Forall variable sort body) t0 t5
-forall_read level variable sort body t0 t1 t2 t3 t4 t5 s less h0 h1 h2 h3 = record { goes = λ k. forall_step level t0 t1 k s less ∙ h0.goes (λ variable. State.want (Due.sign sign_of.Colon) (λ _. State.want Due.name (λ sort. State.want (Due.unary (level + 1)) (λ body. k (named.Forall variable sort body))))) ∙ h1.goes (λ _. State.want Due.name (λ sort. State.want (Due.unary (level + 1)) (λ body. k (named.Forall variable sort body)))) ∙ h2.goes (λ sort. State.want (Due.unary (level + 1)) (λ body. k (named.Forall variable sort body))) ∙ h3.goes (λ body. k (named.Forall variable sort body)) }
+pub quantified_deep : (level : ℕ) (w : Keyword) (t0 t1 : Tokens) → Steps.is_quantifier w ≡ true → Starts (token.Keyword w) t0 t1 → 64 ≤ level → Stops Named (State.want (Due.unary level)) t0 t0 reason.Depth
+quantified_deep level w t0 t1 is s more =
+    rw s.is (record {
+      stops = λ k. ap (λ (m : Moved). by (on s.line (token.Keyword w) ∷ t1) t1 m) (by_quantifier level w k is)
+          ∙ too_deep t1 (Steps.variable (quantified_body (suc level) w k)) s.line (token.Keyword w) level more;
+    })
 
-pub forall_stops0 : (level : ℕ) (t0 t1 tokens : Tokens) (s : Stop) → Starts (token.Keyword keyword.Forall) t0 t1 → level < 64 → Halts (List ℕ) (State.want Due.name) t1 tokens s → Halts Named (State.want (Due.unary level)) t0 tokens s
-forall_stops0 level t0 t1 tokens (stop.Refused at why) s less h = record { stops = λ k. forall_step level t0 t1 k s less ∙ h.stops (λ variable. State.want (Due.sign sign_of.Colon) (λ _. State.want Due.name (λ sort. State.want (Due.unary (level + 1)) (λ body. k (named.Forall variable sort body))))) }
-forall_stops0 level t0 t1 tokens stop.NoMemory s less h = tt
+quantified_step : (level : ℕ) (w : Keyword) (t0 t1 : Tokens) (k : Behind Named) → Steps.is_quantifier w ≡ true → Starts (token.Keyword w) t0 t1 → level < 64
+    → outcome strict t0 (State.want (Due.unary level) k) ≡ outcome strict t1 (Steps.variable (quantified_body (level + 1) w k))
+quantified_step level w t0 t1 k is s less =
+    rw (s.is, add-one level) (ap (λ (m : Moved). by (on s.line (token.Keyword w) ∷ t1) t1 m) (by_quantifier level w k is)
+    ∙ opened t1 (Steps.variable (quantified_body (suc level) w k)) s.line (token.Keyword w) level less)
 
-pub forall_stops1 : (level : ℕ) (variable : List ℕ) (t0 t1 t2 tokens : Tokens) (s : Stop) → Starts (token.Keyword keyword.Forall) t0 t1 → level < 64 → Goes (List ℕ) (State.want Due.name) variable t1 t2 → Halts (Unit {0}) (State.want (Due.sign sign_of.Colon)) t2 tokens s → Halts Named (State.want (Due.unary level)) t0 tokens s
-forall_stops1 level variable t0 t1 t2 tokens (stop.Refused at why) s less h0 h = record { stops = λ k. forall_step level t0 t1 k s less ∙ h0.goes (λ variable. State.want (Due.sign sign_of.Colon) (λ _. State.want Due.name (λ sort. State.want (Due.unary (level + 1)) (λ body. k (named.Forall variable sort body))))) ∙ h.stops (λ _. State.want Due.name (λ sort. State.want (Due.unary (level + 1)) (λ body. k (named.Forall variable sort body)))) }
-forall_stops1 level variable t0 t1 t2 tokens stop.NoMemory s less h0 h = tt
+pub quantified_read : (level : ℕ) (w : Keyword) (variable sort : List ℕ) (body : Named) (t0 t1 t2 t3 : Tokens) → Steps.is_quantifier w ≡ true → Starts (token.Keyword w) t0 t1 → level < 64
+    → Goes (List ℕ × List ℕ) Steps.variable (variable, sort) t1 t2 → Goes Named (State.want (Due.unary (level + 1))) body t2 t3
+    → Goes Named (State.want (Due.unary level)) (Steps.quantify w variable sort body) t0 t3
+quantified_read level w variable sort body t0 t1 t2 t3 is s less h0 h1 =
+    record { goes = λ k. quantified_step level w t0 t1 k is s less ∙ h0.goes (quantified_body (level + 1) w k) ∙ h1.goes (λ body. k (Steps.quantify w variable sort body)) }
 
-pub forall_stops2 : (level : ℕ) (variable : List ℕ) (t0 t1 t2 t3 tokens : Tokens) (s : Stop) → Starts (token.Keyword keyword.Forall) t0 t1 → level < 64 → Goes (List ℕ) (State.want Due.name) variable t1 t2 → Goes (Unit {0}) (State.want (Due.sign sign_of.Colon)) tt t2 t3 → Halts (List ℕ) (State.want Due.name) t3 tokens s → Halts Named (State.want (Due.unary level)) t0 tokens s
-forall_stops2 level variable t0 t1 t2 t3 tokens (stop.Refused at why) s less h0 h1 h = record { stops = λ k. forall_step level t0 t1 k s less ∙ h0.goes (λ variable. State.want (Due.sign sign_of.Colon) (λ _. State.want Due.name (λ sort. State.want (Due.unary (level + 1)) (λ body. k (named.Forall variable sort body))))) ∙ h1.goes (λ _. State.want Due.name (λ sort. State.want (Due.unary (level + 1)) (λ body. k (named.Forall variable sort body)))) ∙ h.stops (λ sort. State.want (Due.unary (level + 1)) (λ body. k (named.Forall variable sort body))) }
-forall_stops2 level variable t0 t1 t2 t3 tokens stop.NoMemory s less h0 h1 h = tt
+pub quantified_stops0 : (level : ℕ) (w : Keyword) (t0 t1 tokens : Tokens) (s : Stop) → Steps.is_quantifier w ≡ true → Starts (token.Keyword w) t0 t1 → level < 64
+    → Halts (List ℕ × List ℕ) Steps.variable t1 tokens s → Halts Named (State.want (Due.unary level)) t0 tokens s
+quantified_stops0 level w t0 t1 tokens (stop.Refused at why) is s less h = record { stops = λ k. quantified_step level w t0 t1 k is s less ∙ h.stops (quantified_body (level + 1) w k) }
+quantified_stops0 level w t0 t1 tokens stop.NoMemory is s less h = tt
 
-pub forall_stops3 : (level : ℕ) (variable : List ℕ) (sort : List ℕ) (t0 t1 t2 t3 t4 tokens : Tokens) (s : Stop) → Starts (token.Keyword keyword.Forall) t0 t1 → level < 64 → Goes (List ℕ) (State.want Due.name) variable t1 t2 → Goes (Unit {0}) (State.want (Due.sign sign_of.Colon)) tt t2 t3 → Goes (List ℕ) (State.want Due.name) sort t3 t4 → Halts (Named) (State.want (Due.unary (level + 1))) t4 tokens s → Halts Named (State.want (Due.unary level)) t0 tokens s
-forall_stops3 level variable sort t0 t1 t2 t3 t4 tokens (stop.Refused at why) s less h0 h1 h2 h = record { stops = λ k. forall_step level t0 t1 k s less ∙ h0.goes (λ variable. State.want (Due.sign sign_of.Colon) (λ _. State.want Due.name (λ sort. State.want (Due.unary (level + 1)) (λ body. k (named.Forall variable sort body))))) ∙ h1.goes (λ _. State.want Due.name (λ sort. State.want (Due.unary (level + 1)) (λ body. k (named.Forall variable sort body)))) ∙ h2.goes (λ sort. State.want (Due.unary (level + 1)) (λ body. k (named.Forall variable sort body))) ∙ h.stops (λ body. k (named.Forall variable sort body)) }
-forall_stops3 level variable sort t0 t1 t2 t3 t4 tokens stop.NoMemory s less h0 h1 h2 h = tt
-
-pub exists_deep : (level : ℕ) (t0 t1 : Tokens) → Starts (token.Keyword keyword.Exists) t0 t1 → 64 ≤ level → Stops Named (State.want (Due.unary level)) t0 t0 reason.Depth
-exists_deep level t0 t1 s more = rw s.is (record { stops = λ k. too_deep t1 (State.want Due.name (λ variable. State.want (Due.sign sign_of.Colon) (λ _. State.want Due.name (λ sort. State.want (Due.unary (suc level)) (λ body. k (named.Exists variable sort body)))))) s.line (token.Keyword keyword.Exists) level more })
-
-exists_step : (level : ℕ) (t0 t1 : Tokens) (k : Behind Named) → Starts (token.Keyword keyword.Exists) t0 t1 → level < 64 → outcome strict t0 (State.want (Due.unary level) k) ≡ outcome strict t1 (State.want Due.name (λ variable. State.want (Due.sign sign_of.Colon) (λ _. State.want Due.name (λ sort. State.want (Due.unary ((level + 1))) (λ body. k (named.Exists variable sort body))))))
-exists_step level t0 t1 k s less = rw (s.is, add-one level) (opened t1 (State.want Due.name (λ variable. State.want (Due.sign sign_of.Colon) (λ _. State.want Due.name (λ sort. State.want (Due.unary (suc level)) (λ body. k (named.Exists variable sort body)))))) s.line (token.Keyword keyword.Exists) level less)
-
-pub exists_read : (level : ℕ) (variable : List ℕ) (sort : List ℕ) (body : Named) (t0 t1 t2 t3 t4 t5 : Tokens) → Starts (token.Keyword keyword.Exists) t0 t1 → level < 64 → Goes (List ℕ) (State.want Due.name) variable t1 t2 → Goes (Unit {0}) (State.want (Due.sign sign_of.Colon)) tt t2 t3 → Goes (List ℕ) (State.want Due.name) sort t3 t4 → Goes (Named) (State.want (Due.unary (level + 1))) body t4 t5 → Goes Named (State.want (Due.unary level)) (named.Exists variable sort body) t0 t5
-exists_read level variable sort body t0 t1 t2 t3 t4 t5 s less h0 h1 h2 h3 = record { goes = λ k. exists_step level t0 t1 k s less ∙ h0.goes (λ variable. State.want (Due.sign sign_of.Colon) (λ _. State.want Due.name (λ sort. State.want (Due.unary (level + 1)) (λ body. k (named.Exists variable sort body))))) ∙ h1.goes (λ _. State.want Due.name (λ sort. State.want (Due.unary (level + 1)) (λ body. k (named.Exists variable sort body)))) ∙ h2.goes (λ sort. State.want (Due.unary (level + 1)) (λ body. k (named.Exists variable sort body))) ∙ h3.goes (λ body. k (named.Exists variable sort body)) }
-
-pub exists_stops0 : (level : ℕ) (t0 t1 tokens : Tokens) (s : Stop) → Starts (token.Keyword keyword.Exists) t0 t1 → level < 64 → Halts (List ℕ) (State.want Due.name) t1 tokens s → Halts Named (State.want (Due.unary level)) t0 tokens s
-exists_stops0 level t0 t1 tokens (stop.Refused at why) s less h = record { stops = λ k. exists_step level t0 t1 k s less ∙ h.stops (λ variable. State.want (Due.sign sign_of.Colon) (λ _. State.want Due.name (λ sort. State.want (Due.unary (level + 1)) (λ body. k (named.Exists variable sort body))))) }
-exists_stops0 level t0 t1 tokens stop.NoMemory s less h = tt
-
-pub exists_stops1 : (level : ℕ) (variable : List ℕ) (t0 t1 t2 tokens : Tokens) (s : Stop) → Starts (token.Keyword keyword.Exists) t0 t1 → level < 64 → Goes (List ℕ) (State.want Due.name) variable t1 t2 → Halts (Unit {0}) (State.want (Due.sign sign_of.Colon)) t2 tokens s → Halts Named (State.want (Due.unary level)) t0 tokens s
-exists_stops1 level variable t0 t1 t2 tokens (stop.Refused at why) s less h0 h = record { stops = λ k. exists_step level t0 t1 k s less ∙ h0.goes (λ variable. State.want (Due.sign sign_of.Colon) (λ _. State.want Due.name (λ sort. State.want (Due.unary (level + 1)) (λ body. k (named.Exists variable sort body))))) ∙ h.stops (λ _. State.want Due.name (λ sort. State.want (Due.unary (level + 1)) (λ body. k (named.Exists variable sort body)))) }
-exists_stops1 level variable t0 t1 t2 tokens stop.NoMemory s less h0 h = tt
-
-pub exists_stops2 : (level : ℕ) (variable : List ℕ) (t0 t1 t2 t3 tokens : Tokens) (s : Stop) → Starts (token.Keyword keyword.Exists) t0 t1 → level < 64 → Goes (List ℕ) (State.want Due.name) variable t1 t2 → Goes (Unit {0}) (State.want (Due.sign sign_of.Colon)) tt t2 t3 → Halts (List ℕ) (State.want Due.name) t3 tokens s → Halts Named (State.want (Due.unary level)) t0 tokens s
-exists_stops2 level variable t0 t1 t2 t3 tokens (stop.Refused at why) s less h0 h1 h = record { stops = λ k. exists_step level t0 t1 k s less ∙ h0.goes (λ variable. State.want (Due.sign sign_of.Colon) (λ _. State.want Due.name (λ sort. State.want (Due.unary (level + 1)) (λ body. k (named.Exists variable sort body))))) ∙ h1.goes (λ _. State.want Due.name (λ sort. State.want (Due.unary (level + 1)) (λ body. k (named.Exists variable sort body)))) ∙ h.stops (λ sort. State.want (Due.unary (level + 1)) (λ body. k (named.Exists variable sort body))) }
-exists_stops2 level variable t0 t1 t2 t3 tokens stop.NoMemory s less h0 h1 h = tt
-
-pub exists_stops3 : (level : ℕ) (variable : List ℕ) (sort : List ℕ) (t0 t1 t2 t3 t4 tokens : Tokens) (s : Stop) → Starts (token.Keyword keyword.Exists) t0 t1 → level < 64 → Goes (List ℕ) (State.want Due.name) variable t1 t2 → Goes (Unit {0}) (State.want (Due.sign sign_of.Colon)) tt t2 t3 → Goes (List ℕ) (State.want Due.name) sort t3 t4 → Halts (Named) (State.want (Due.unary (level + 1))) t4 tokens s → Halts Named (State.want (Due.unary level)) t0 tokens s
-exists_stops3 level variable sort t0 t1 t2 t3 t4 tokens (stop.Refused at why) s less h0 h1 h2 h = record { stops = λ k. exists_step level t0 t1 k s less ∙ h0.goes (λ variable. State.want (Due.sign sign_of.Colon) (λ _. State.want Due.name (λ sort. State.want (Due.unary (level + 1)) (λ body. k (named.Exists variable sort body))))) ∙ h1.goes (λ _. State.want Due.name (λ sort. State.want (Due.unary (level + 1)) (λ body. k (named.Exists variable sort body)))) ∙ h2.goes (λ sort. State.want (Due.unary (level + 1)) (λ body. k (named.Exists variable sort body))) ∙ h.stops (λ body. k (named.Exists variable sort body)) }
-exists_stops3 level variable sort t0 t1 t2 t3 t4 tokens stop.NoMemory s less h0 h1 h2 h = tt
+pub quantified_stops1 : (level : ℕ) (w : Keyword) (variable sort : List ℕ) (t0 t1 t2 tokens : Tokens) (s : Stop) → Steps.is_quantifier w ≡ true → Starts (token.Keyword w) t0 t1 → level < 64
+    → Goes (List ℕ × List ℕ) Steps.variable (variable, sort) t1 t2 → Halts Named (State.want (Due.unary (level + 1))) t2 tokens s
+    → Halts Named (State.want (Due.unary level)) t0 tokens s
+quantified_stops1 level w variable sort t0 t1 t2 tokens (stop.Refused at why) is s less h0 h =
+    record { stops = λ k. quantified_step level w t0 t1 k is s less ∙ h0.goes (quantified_body (level + 1) w k) ∙ h.stops (λ body. k (Steps.quantify w variable sort body)) }
+quantified_stops1 level w variable sort t0 t1 t2 tokens stop.NoMemory is s less h0 h = tt
 
 pub group_deep : (level : ℕ) (t0 t1 : Tokens) → Starts (token.Sign sign_of.Open) t0 t1 → 64 ≤ level → Stops Named (State.want (Due.unary level)) t0 t0 reason.Depth
 group_deep level t0 t1 s more = rw s.is (record { stops = λ k. too_deep t1 (Steps.an_equivalence (suc level) [] (λ value. State.want (Due.sign sign_of.Close) (λ _. k value))) s.line (token.Sign sign_of.Open) level more })

@@ -19,6 +19,7 @@ pub mod Literals
 pub mod Terms
 pub mod Atoms
 pub mod Formulas
+pub mod Variables
 pub mod Explores
 pub mod Commands
 pub mod Stating

@@ -10,7 +10,9 @@ use Rattle.query_lang.specs.Scripts.{IsScript}
 
 -- some script begins with these, among which at most so many levels are open; behind them it may open any
 abbrev pub Begins : ℕ → Bool → Tokens → Type 0
-Begins levels asks front = (more : Tokens) × (script : Script) × IsScript (levelled levels (length more) asks) script (front ++ more)
+Begins levels asks front =
+    (more : Tokens) × (script : Script)
+    × IsScript (levelled levels (length more) asks) script (front ++ more)
 
 abbrev pub first_of : Tokens → Option Placed
 first_of [] = None

@@ -9,4 +9,5 @@ pub record Rules : Type 0 where
 
 -- at most so many levels, but that the last tokens, `free` of them, may open any
 abbrev pub levelled : ℕ → ℕ → Bool → Rules
-levelled levels free asks = record { opens = λ level behind. nat_lt level levels || nat_lt behind free; asks = asks }
+levelled levels free asks =
+    record { opens = λ level behind. nat_lt level levels || nat_lt behind free; asks = asks }

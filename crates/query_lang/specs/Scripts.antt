@@ -24,15 +24,25 @@ MayAsk rules (Some explored) = Unit {0}
 -- statements, with the line on which the last EXPLORE before them began. A statement's line is that of its first token
 pub data AreStatements (rules : Rules) : Option ℕ → List Statement → Tokens → Type 0 where
   none : (explored : Option ℕ) → AreStatements rules explored [] []
-  ask : (explored : Option ℕ) (line : ℕ) (what : Kind) (first : Placed) (statements : List Statement) (tokens rest : Tokens)
-      → MayAsk rules explored → IsAsk what (first ∷ tokens) (sign line sign_of.Semicolon ∷ rest) → AreStatements rules explored statements rest
-      → AreStatements rules explored (record { line = first.line; kind = what } ∷ statements) (first ∷ tokens)
-  explore : (explored : Option ℕ) (line : ℕ) (what : Explore) (first : Placed) (statements : List Statement) (tokens rest : Tokens)
-      → IsOffLine explored first.line → IsExplore rules what (first ∷ tokens) (sign line sign_of.Semicolon ∷ rest) → AreStatements rules (Some first.line) statements rest
-      → AreStatements rules explored (record { line = first.line; kind = kind.Explore what } ∷ statements) (first ∷ tokens)
-  command : (explored : Option ℕ) (line : ℕ) (what : Kind) (first : Placed) (statements : List Statement) (tokens rest : Tokens)
-      → IsCommand what (first ∷ tokens) (sign line sign_of.Semicolon ∷ rest) → AreStatements rules explored statements rest
-      → AreStatements rules explored (record { line = first.line; kind = what } ∷ statements) (first ∷ tokens)
+  ask : (explored : Option ℕ) (line : ℕ) (what : Kind) (first : Placed)
+      (statements : List Statement) (tokens rest : Tokens)
+      → MayAsk rules explored → IsAsk what (first ∷ tokens) (sign line sign_of.Semicolon ∷ rest)
+      → AreStatements rules explored statements rest
+      → AreStatements rules explored (record { line = first.line; kind = what } ∷ statements)
+      (first ∷ tokens)
+  explore : (explored : Option ℕ) (line : ℕ) (what : Explore) (first : Placed)
+      (statements : List Statement) (tokens rest : Tokens)
+      → IsOffLine explored first.line
+      → IsExplore rules what (first ∷ tokens) (sign line sign_of.Semicolon ∷ rest)
+      → AreStatements rules (Some first.line) statements rest
+      → AreStatements rules explored
+      (record { line = first.line; kind = kind.Explore what } ∷ statements) (first ∷ tokens)
+  command : (explored : Option ℕ) (line : ℕ) (what : Kind) (first : Placed)
+      (statements : List Statement) (tokens rest : Tokens)
+      → IsCommand what (first ∷ tokens) (sign line sign_of.Semicolon ∷ rest)
+      → AreStatements rules explored statements rest
+      → AreStatements rules explored (record { line = first.line; kind = what } ∷ statements)
+      (first ∷ tokens)
 
 -- the tokens are a script
 abbrev pub IsScript : Rules → Script → Tokens → Type 0

@@ -41,12 +41,15 @@ numeral n = token.Digits (decimal n)
 
 -- a component of a path: as it is where it is a name or a numeral, else between quotes
 abbrev pub component : List ℕ → Token
-component text = if is_name text then token.Name text else if is_numeral text then token.Digits text else token.Quoted text
+component text =
+    if is_name text then token.Name text else if is_numeral text then token.Digits text else
+    token.Quoted text
 
 -- a name, and each component behind a dot
 abbrev pub components : List (List ℕ) → List Token
 components [] = []
-components (text ∷ more) = token.Name text ∷ flat_map (λ part. token.Sign sign_of.Dot ∷ component part ∷ []) more
+components (text ∷ more) =
+    token.Name text ∷ flat_map (λ part. token.Sign sign_of.Dot ∷ component part ∷ []) more
 
 abbrev pub path : Path → List Token
 path list = components list.parts
@@ -62,7 +65,9 @@ same_literal _ _ = false
 
 -- what lies between two: one of them where they are the same
 abbrev pub range : Literal → Literal → List Token
-range lo hi = if same_literal lo hi then literal lo ∷ [] else literal lo ∷ token.Keyword keyword.To ∷ literal hi ∷ []
+range lo hi =
+    if same_literal lo hi then literal lo ∷ [] else literal lo ∷ token.Keyword keyword.To
+    ∷ literal hi ∷ []
 
 -- tokens between parentheses
 abbrev pub enclosed : List Token → List Token
@@ -103,21 +108,32 @@ abbrev pub unjoined : List Token → Written
 unjoined tokens = record { joins = 0; tokens = tokens }
 
 abbrev pub quantified : Token → List ℕ → List ℕ → Written → Written
-quantified quantifier variable sort body = unjoined (quantifier ∷ token.Name variable ∷ token.Sign sign_of.Colon ∷ token.Name sort ∷ at_most 0 body)
+quantified quantifier variable sort body =
+    unjoined (quantifier ∷ token.Name variable ∷ token.Sign sign_of.Colon ∷ token.Name sort
+    ∷ at_most 0 body)
 
 abbrev pub formula_step : Named-F Written → Written
 formula_step Named-F.True = unjoined (token.Keyword keyword.True ∷ [])
 formula_step Named-F.False = unjoined (token.Keyword keyword.False ∷ [])
 formula_step (Named-F.Not body) = unjoined (token.Keyword keyword.Not ∷ at_most 0 body)
-formula_step (Named-F.And parts) = record { joins = 1; tokens = parted (token.Keyword keyword.And) (at_most 0) parts }
-formula_step (Named-F.Or parts) = record { joins = 2; tokens = parted (token.Keyword keyword.Or) (at_most 1) parts }
-formula_step (Named-F.Implies left right) = record { joins = 3; tokens = at_most 2 left ++ token.Keyword keyword.Implies ∷ at_most 3 right }
-formula_step (Named-F.Iff parts) = record { joins = 4; tokens = parted (token.Keyword keyword.Iff) (at_most 3) parts }
-formula_step (Named-F.Forall variable sort body) = quantified (token.Keyword keyword.Forall) variable sort body
-formula_step (Named-F.Exists variable sort body) = quantified (token.Keyword keyword.Exists) variable sort body
-formula_step (Named-F.AtPath list verdict args) = unjoined (path list ++ token.Sign sign_of.Colon ∷ call verdict args)
-formula_step (Named-F.Equal left right) = unjoined (term left ++ token.Sign sign_of.Equals ∷ term right)
-formula_step (Named-F.Masked of value wildcard) = unjoined (term of ++ token.Keyword keyword.In ∷ literal value ∷ literal wildcard ∷ [])
+formula_step (Named-F.And parts) =
+    record { joins = 1; tokens = parted (token.Keyword keyword.And) (at_most 0) parts }
+formula_step (Named-F.Or parts) =
+    record { joins = 2; tokens = parted (token.Keyword keyword.Or) (at_most 1) parts }
+formula_step (Named-F.Implies left right) =
+    record { joins = 3; tokens = at_most 2 left ++ token.Keyword keyword.Implies ∷ at_most 3 right }
+formula_step (Named-F.Iff parts) =
+    record { joins = 4; tokens = parted (token.Keyword keyword.Iff) (at_most 3) parts }
+formula_step (Named-F.Forall variable sort body) =
+    quantified (token.Keyword keyword.Forall) variable sort body
+formula_step (Named-F.Exists variable sort body) =
+    quantified (token.Keyword keyword.Exists) variable sort body
+formula_step (Named-F.AtPath list verdict args) =
+    unjoined (path list ++ token.Sign sign_of.Colon ∷ call verdict args)
+formula_step (Named-F.Equal left right) =
+    unjoined (term left ++ token.Sign sign_of.Equals ∷ term right)
+formula_step (Named-F.Masked of value wildcard) =
+    unjoined (term of ++ token.Keyword keyword.In ∷ literal value ∷ literal wildcard ∷ [])
 formula_step (Named-F.Range of lo hi) = unjoined (term of ++ token.Keyword keyword.In ∷ range lo hi)
 formula_step (Named-F.Holds text args) = unjoined (call text args)
 
@@ -135,7 +151,9 @@ declared variable = token.Name variable.0 ∷ token.Sign sign_of.Colon ∷ token
 
 abbrev pub variables : List (List ℕ × List ℕ) → List Token
 variables [] = []
-variables all = token.Sign sign_of.OpenBracket ∷ (by_commas declared all ++ token.Sign sign_of.CloseBracket ∷ [])
+variables all =
+    token.Sign sign_of.OpenBracket
+    ∷ (by_commas declared all ++ token.Sign sign_of.CloseBracket ∷ [])
 
 abbrev pub under : List (List ℕ) → List Token
 under [] = []
@@ -146,14 +164,19 @@ included [] = []
 included atoms = token.Keyword keyword.Include ∷ by_commas formula atoms
 
 abbrev pub explore : Explore → List Token
-explore what = token.Keyword keyword.Explore ∷ (variables what.vars ++ (formula what.formula ++ (under what.under ++ included what.include)))
+explore what =
+    token.Keyword keyword.Explore
+    ∷ (variables what.vars ++ (formula what.formula ++ (under what.under ++ included what.include)))
 
 abbrev pub field_test : NamedTest → List Token
-field_test (test_of.Masked field value wildcard) = token.Name field ∷ token.Keyword keyword.In ∷ literal value ∷ literal wildcard ∷ []
+field_test (test_of.Masked field value wildcard) =
+    token.Name field ∷ token.Keyword keyword.In ∷ literal value ∷ literal wildcard ∷ []
 field_test (test_of.Range field lo hi) = token.Name field ∷ token.Keyword keyword.In ∷ range lo hi
 
 abbrev pub ends : List ℕ → List ℕ → List ℕ → List ℕ → List Token
-ends from from_interface to to_interface = token.Name from ∷ token.Quoted from_interface ∷ token.Keyword keyword.To ∷ token.Name to ∷ token.Quoted to_interface ∷ []
+ends from from_interface to to_interface =
+    token.Name from ∷ token.Quoted from_interface ∷ token.Keyword keyword.To ∷ token.Name to
+    ∷ token.Quoted to_interface ∷ []
 
 abbrev pub show : List Token → List Token
 show what = token.Keyword keyword.Show ∷ what
@@ -165,27 +188,43 @@ load what = token.Keyword keyword.Load ∷ what
 abbrev pub statement : Kind → List Token
 statement (kind.LoadVocab file) = load (token.Keyword keyword.Vocab ∷ token.Quoted file ∷ [])
 statement (kind.LoadPolicy file) = load (token.Keyword keyword.Policy ∷ token.Quoted file ∷ [])
-statement (kind.LoadIos file text) = load (token.Keyword keyword.Ios ∷ token.Quoted file ∷ token.Keyword keyword.As ∷ token.Name text ∷ [])
-statement (kind.LoadIptables file text) = load (token.Keyword keyword.Iptables ∷ token.Quoted file ∷ token.Keyword keyword.As ∷ token.Name text ∷ [])
+statement (kind.LoadIos file text) =
+    load (token.Keyword keyword.Ios ∷ token.Quoted file ∷ token.Keyword keyword.As ∷ token.Name text
+    ∷ [])
+statement (kind.LoadIptables file text) =
+    load (token.Keyword keyword.Iptables ∷ token.Quoted file ∷ token.Keyword keyword.As
+    ∷ token.Name text ∷ [])
 statement (kind.Explore what) = explore what
-statement kind.IsPossible = token.Keyword keyword.Is ∷ token.Keyword keyword.Possible ∷ token.Sign sign_of.Question ∷ []
+statement kind.IsPossible =
+    token.Keyword keyword.Is ∷ token.Keyword keyword.Possible ∷ token.Sign sign_of.Question ∷ []
 statement kind.ShowOne = show (token.Keyword keyword.One ∷ [])
 statement (kind.ShowFirst n) = show (token.Keyword keyword.First ∷ numeral n ∷ [])
 statement kind.ShowAll = show (token.Keyword keyword.All ∷ [])
 statement kind.ShowFull = show (token.Keyword keyword.Full ∷ [])
-statement (kind.ShowUpTo n) = show (token.Keyword keyword.Up ∷ token.Keyword keyword.To ∷ numeral n ∷ [])
+statement (kind.ShowUpTo n) =
+    show (token.Keyword keyword.Up ∷ token.Keyword keyword.To ∷ numeral n ∷ [])
 statement kind.ShowRealized = show (token.Keyword keyword.Realized ∷ [])
 statement kind.ShowUnrealized = show (token.Keyword keyword.Unrealized ∷ [])
 statement kind.ShowBounds = show (token.Keyword keyword.Bounds ∷ [])
 statement kind.ShowProof = show (token.Keyword keyword.Proof ∷ [])
 statement (kind.Compare left right) = token.Keyword keyword.Compare ∷ (path left ++ path right)
-statement (kind.Decide list packet) = token.Keyword keyword.Decide ∷ (path list ++ enclosed (by_commas (λ one. literal one ∷ []) packet))
-statement (kind.Generate n seed text) = token.Keyword keyword.Generate ∷ numeral n ∷ numeral seed ∷ token.Keyword keyword.As ∷ token.Name text ∷ []
-statement (kind.Link from from_interface to to_interface) = token.Keyword keyword.Link ∷ ends from from_interface to to_interface
-statement (kind.Paths from from_interface to to_interface within) = token.Keyword keyword.Path ∷ (ends from from_interface to to_interface ++ token.Keyword keyword.Within ∷ numeral within ∷ [])
+statement (kind.Decide list packet) =
+    token.Keyword keyword.Decide
+    ∷ (path list ++ enclosed (by_commas (λ one. literal one ∷ []) packet))
+statement (kind.Generate n seed text) =
+    token.Keyword keyword.Generate ∷ numeral n ∷ numeral seed ∷ token.Keyword keyword.As
+    ∷ token.Name text ∷ []
+statement (kind.Link from from_interface to to_interface) =
+    token.Keyword keyword.Link ∷ ends from from_interface to to_interface
+statement (kind.Paths from from_interface to to_interface within) =
+    token.Keyword keyword.Path
+    ∷ (ends from from_interface to to_interface ++ token.Keyword keyword.Within ∷ numeral within
+    ∷ [])
 statement (kind.Audit list) = token.Keyword keyword.Audit ∷ path list
 statement (kind.Core list verdict tests) =
-    token.Keyword keyword.Core ∷ (path list ++ token.Sign sign_of.Colon ∷ token.Name verdict ∷ token.Keyword keyword.Where ∷ by_commas field_test tests)
+    token.Keyword keyword.Core
+    ∷ (path list ++ token.Sign sign_of.Colon ∷ token.Name verdict ∷ token.Keyword keyword.Where
+    ∷ by_commas field_test tests)
 
 -- the tokens of its line
 abbrev pub line_of : Kind → List Token

@@ -11,3 +11,4 @@ pub mod paths;
 pub mod statements;
 pub mod stop;
 pub mod terms;
+pub mod variables;

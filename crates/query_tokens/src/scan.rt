@@ -61,7 +61,9 @@ pub fn one_list_of_tokens()
     ensures same { (bytes : List ℕ) (first second : List AnyPlaced)
         → AreTokens bytes first → AreTokens bytes second → first ≡ second }
     ensures some { (bytes : List ℕ) → ((tokens : List AnyPlaced) → AreTokens bytes tokens → ⊥) → ⊥ }
-    ensures lines { (bytes : List ℕ) (tokens : List AnyPlaced) → AreTokens bytes tokens → RiseFrom 1 tokens }
+    ensures lines { (bytes : List ℕ) (tokens : List AnyPlaced)
+        → AreTokens bytes tokens → RiseFrom 1 tokens }
     ensures bad_is_last { (bytes : List ℕ) (front behind : List AnyPlaced) (line : ℕ)
-        → AreTokens bytes (front ++ record { line = line; token = Token.Bad } ∷ behind) → behind ≡ [] }
+        → AreTokens bytes (front ++ record { line = line; token = Token.Bad } ∷ behind)
+        → behind ≡ [] }
 {}

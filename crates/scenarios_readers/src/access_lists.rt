@@ -1,9 +1,9 @@
-use crate::reasons::push_reason;
-use crate::table::{answered, parted, push_answer, push_bytes, push_message};
+use crate::lines_and_words::push_message;
 use ios_acl::{Acl, AclFault, Entry, Packet, Verdict, established_bits, one_reading};
 use ios_lex::{Dotted, Word, words_in};
 use std::alloc::Global;
 use std::test::Fail;
+use test_tables::{answered, parted, push_answer, push_bytes, push_reason};
 
 /// Writes what the list says of a line: `read`, or the reason of its refusal.
 fn push_reading(text: &mut String, read: Result<(), AclFault>) -> Result<(), Fail> {
@@ -16,21 +16,10 @@ fn push_reading(text: &mut String, read: Result<(), AclFault>) -> Result<(), Fai
 
 /// The table with what the list says of its lines, one after another.
 fn readings(alloc: Global, list: &mut Acl, table: &str) -> Result<String, Fail> {
-    let mut text = String::new(alloc);
-    let mut rest = table;
-    for _ in 0..table.len() {
-        let Some((line, others)) = rest.split_once(" => ") else {
-            break;
-        };
-        text.push_str(line)?;
-        text.push_str(" => ")?;
+    answered(alloc, table, "\n", |alloc, line, text| {
         let words = words_in(alloc, line.as_bytes())?;
-        push_reading(&mut text, list.read_line(words.as_slice()))?;
-        text.push('\n')?;
-        let (_, next) = others.split_once('\n').ok_or("a row without an end")?;
-        rest = next;
-    }
-    Ok(text)
+        push_reading(text, list.read_line(words.as_slice()))
+    })
 }
 
 /// Writes the name of the list, its kind, and the numbers of its entries.

@@ -1,9 +1,9 @@
 use crate::access_lists::push_list;
-use crate::reasons::push_reason;
-use crate::table::answered;
-use ios_config::{ConfigFault, ConfigReason, Router, one_config, read_config, written_list};
+use ios_config::{ConfigFault, Router, one_config, read_config, written_list};
+use ios_names::NameTable;
 use std::alloc::Global;
 use std::test::Fail;
+use test_tables::{answered, push_reason};
 
 /// Writes the name, the kind and the numbers of the entries of each list, and how many lines were ignored.
 fn push_router(text: &mut String, router: &Router) -> Result<(), Fail> {
@@ -15,20 +15,15 @@ fn push_router(text: &mut String, router: &Router) -> Result<(), Fail> {
     Ok(())
 }
 
-/// Writes the line that is refused, and why.
-fn push_refusal(text: &mut String, line: u64, reason: &ConfigReason) -> Result<(), Fail> {
-    write!(text, "{line} ")?;
-    match reason {
-        ConfigReason::NotBuilt => Ok(text.push_str("not built")?),
-        ConfigReason::Ios(reason) => push_reason(text, reason),
-    }
-}
-
 /// Writes what a configuration says, or its line that is refused.
 fn push_config(alloc: Global, given: &str, text: &mut String) -> Result<(), Fail> {
-    match read_config(alloc, given.as_bytes()) {
+    let mut names = NameTable::new(alloc);
+    match read_config(alloc, given.as_bytes(), &mut names) {
         Ok(router) => push_router(text, &router),
-        Err(ConfigFault::At { line, reason }) => push_refusal(text, line, &reason),
+        Err(ConfigFault::At { line, reason }) => {
+            write!(text, "{line} ")?;
+            push_reason(text, &reason)
+        }
         Err(ConfigFault::NoMemory) => Ok(text.push_str("no memory")?),
     }
 }
@@ -78,6 +73,18 @@ ip access-list extended 300
  permit ip any any
 access-list 300 deny ip any any
  => 300 extended 10; 1 ignored~
+hostname edge
+access-list 10 deny any
+ permit any
+ => 10 standard 10; 2 ignored~
+ip access-list standard A
+access-list 200
+ permit any
+ => A standard; 2 ignored~
+banner motd #
+access-list 10 permit any
+#
+ => 3 ignored~
 ";
 
 #[test]
@@ -132,23 +139,17 @@ ip access-list standard A
  10 permit any
  10 deny any
 hostname edge => 4 duplicate sequence~
-hostname edge => 1 not built~
-ip route 0.0.0.0 0.0.0.0 10.0.0.1 => 1 not built~
-access-list 10 deny any
- permit any => 2 not built~
-ip access-list standard A
-access-list 200
- permit any => 3 not built~
-banner motd #
-access-list 10 permit any
-# => 1 not built~
+hostname edge
+router ospf 1 => 2 unmodelled router~
+ip route 0.0.0.0 0.0.0.0 10.0.0.1 => 1 next hop not connected~
 access-list 10 permit any
 
 banner motd #
- => 3 not built~
+ => 3 unclosed~
 hostname edge
+router ospf 1
 banner motd #
- => 1 not built~
+ => 2 unmodelled router~
 access-list 10
 banner motd #
  => 1 bad entry~

@@ -2,9 +2,8 @@
 //! (`ios_config`), those of scripts the tokens (`query_tokens`), how a script is written (`query_lang`) and what a
 //! question about a list asks (`list_questions`). A module or two for each crate that is tested.
 //!
-//! Each test is a table of rows, ` => ` between what is given and what is wanted. What the readers answer now is written
-//! as the same table, and the two are compared as one text. Values come from the documents of IOS, from what is documented
-//! of scripts, and from examples that were worked by hand. Nothing stands above this crate.
+//! Each test is a table (`test_tables`). Values come from the documents of IOS, from what is documented of scripts, and from
+//! examples that were worked by hand. Nothing stands above this crate.
 #![tactic(auto)]
 
 #[cfg(test)]
@@ -16,11 +15,7 @@ mod lines_and_words;
 #[cfg(test)]
 mod questions_about_lists;
 #[cfg(test)]
-mod reasons;
-#[cfg(test)]
 mod script_tokens;
-#[cfg(test)]
-mod table;
 #[cfg(test)]
 mod written_lists;
 #[cfg(test)]

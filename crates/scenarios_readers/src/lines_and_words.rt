@@ -1,5 +1,3 @@
-use crate::reasons::push_reason;
-use crate::table::{answered, parted, push_answer, push_bytes, push_message, push_number};
 use ios_lex::{
     Dotted, Due, IosReason, LexFault, Line, Word, address, byte, four_parts, icmp, is_foreign,
     is_name, is_number_of, kind_of, lines, list_number, number, one_address, one_line_reading,
@@ -8,6 +6,7 @@ use ios_lex::{
 };
 use std::alloc::Global;
 use std::test::Fail;
+use test_tables::{answered, parted, push_answer, push_bytes, push_number, push_reason};
 
 const ADDRESSES: &str = "0.0.0.0 => 0
 10.1.1.5 => a010105
@@ -57,7 +56,10 @@ const NUMBERS: &str = "0 0 => 0
 
 fn push_number_of(_alloc: Global, given: &str, text: &mut String) -> Result<(), Fail> {
     let (max, word) = parted(given)?;
-    push_number(text, number(word.as_bytes(), max.parse::<u64>()?))
+    push_number(
+        text,
+        number(word.as_bytes(), max.parse::<u64>()?).map(u128::from),
+    )
 }
 
 #[test]
@@ -72,7 +74,7 @@ const BYTES: &str = "255 => 255
 ";
 
 fn push_byte(_alloc: Global, given: &str, text: &mut String) -> Result<(), Fail> {
-    push_number(text, byte(given.as_bytes()).map(u64::from))
+    push_number(text, byte(given.as_bytes()).map(u128::from))
 }
 
 #[test]
@@ -160,13 +162,26 @@ TCP => none
 ";
 
 fn push_protocol(_alloc: Global, given: &str, text: &mut String) -> Result<(), Fail> {
-    push_number(text, protocol(given.as_bytes()).map(u64::from))
+    push_number(text, protocol(given.as_bytes()).map(u128::from))
 }
 
 #[test]
 fn protocols_have_names_or_numbers(rt: HostRuntime) -> Result<(), Fail> {
     let text = answered(rt.alloc(), PROTOCOLS, "\n", push_protocol)?;
     assert_eq!(rt; text.as_str(), PROTOCOLS);
+    Ok(())
+}
+
+/// Writes the type of a message, with the code where only one is meant, or `none`.
+pub(crate) fn push_message(
+    text: &mut String,
+    message: Option<(u8, Option<u8>)>,
+) -> Result<(), Fail> {
+    match message {
+        Some((kind, Some(code))) => write!(text, "{kind} {code}")?,
+        Some((kind, None)) => write!(text, "{kind}")?,
+        None => text.push_str("none")?,
+    }
     Ok(())
 }
 
@@ -203,9 +218,9 @@ non500-isakmp => none 4500
 ";
 
 fn push_ports(_alloc: Global, given: &str, text: &mut String) -> Result<(), Fail> {
-    push_number(text, port(given.as_bytes(), true).map(u64::from))?;
+    push_number(text, port(given.as_bytes(), true).map(u128::from))?;
     text.push(' ')?;
-    push_number(text, port(given.as_bytes(), false).map(u64::from))
+    push_number(text, port(given.as_bytes(), false).map(u128::from))
 }
 
 #[test]
@@ -226,7 +241,7 @@ const MASKS: &str = "0.0.0.0 => 0
 
 fn push_prefix(_alloc: Global, given: &str, text: &mut String) -> Result<(), Fail> {
     let mask = address(given.as_bytes()).ok_or("no mask")?;
-    push_number(text, prefix_len(mask).map(u64::from))
+    push_number(text, prefix_len(mask).map(u128::from))
 }
 
 #[test]

@@ -1,12 +1,14 @@
-use crate::table::answered;
 use frame::{Pattern, Test};
 use ios_acl::Packet;
 use ios_config::Field;
+use ios_lex::Word;
+use ios_names::NameTable;
 use list_questions::{FieldTest, LiteralFault, fits, packet_of, tests_of};
 use query_lang::Literal;
 use sorted_logic::Text;
 use std::alloc::Global;
 use std::test::Fail;
+use test_tables::{answered, push_packet};
 
 /// A field, a blank, and a value and its wildcard around `/` or the ends of a range around `-`.
 fn test_of(text: &str) -> Result<FieldTest, Fail> {
@@ -92,18 +94,22 @@ fn literals_of(alloc: Global, words: &str) -> Result<Vec<Literal>, Fail> {
     Ok(literals)
 }
 
-/// Writes the packet, its addresses in hexadecimal digits, or why there is none.
-fn push_packet(text: &mut String, packet: Result<Packet, LiteralFault>) -> Result<(), Fail> {
+/// Writes the packet, or why there is none.
+fn push_outcome(text: &mut String, packet: Result<Packet, LiteralFault>) -> Result<(), Fail> {
     match packet {
-        Ok(p) => write!(
-            text,
-            "{:x} {:x} {} {} {} {} {} {}",
-            p.src, p.dst, p.sport, p.dport, p.proto, p.flags, p.icmp_type, p.icmp_code
-        )?,
-        Err(LiteralFault::OutOfRange) => text.push_str("out of range")?,
-        Err(LiteralFault::UnknownName) => text.push_str("unknown name")?,
+        Ok(packet) => push_packet(text, &packet),
+        Err(LiteralFault::OutOfRange) => Ok(text.push_str("out of range")?),
+        Err(LiteralFault::UnknownName) => Ok(text.push_str("unknown name")?),
     }
-    Ok(())
+}
+
+/// The names of two interfaces.
+fn names_of(alloc: Global) -> Result<NameTable, Fail> {
+    let mut names = NameTable::new(alloc);
+    let first = Word::of(alloc, b"Ethernet0")?;
+    let second = Word::of(alloc, b"Serial0")?;
+    names.add_all(&[first, second])?;
+    Ok(names)
 }
 
 fn push_packet_of(alloc: Global, given: &str, text: &mut String) -> Result<(), Fail> {
@@ -111,7 +117,8 @@ fn push_packet_of(alloc: Global, given: &str, text: &mut String) -> Result<(), F
     if literals.len() != 8 {
         return Err("not eight literals")?;
     }
-    push_packet(text, packet_of(literals.as_slice()))
+    let names = names_of(alloc)?;
+    push_outcome(text, packet_of(&names, literals.as_slice()))
 }
 
 /// Eight literals, and their packet, or the fault of the first that is no number of its field.
@@ -120,8 +127,10 @@ const PACKETS: &str = "167837957 3221225985 1024 80 6 16 0 0 => a010105 c0000201
 4294967296 0 0 0 0 0 0 0 => out of range~
 0 0 0 0 0 64 0 0 => out of range~
 0 0 0 0 0 0 0 340282366920938463463374607431768211455 => out of range~
-0 0 65536 Ethernet0 0 0 0 0 => out of range~
-0 0 Ethernet0 65536 0 0 0 0 => unknown name~
+0 0 Ethernet0 Serial0 0 Serial0 0 0 => 0 0 0 1 0 1 0 0~
+0 0 65536 Ethernet1 0 0 0 0 => out of range~
+0 0 Ethernet1 65536 0 0 0 0 => unknown name~
+0 0 ethernet0 0 0 0 0 0 => unknown name~
 ";
 
 #[test]

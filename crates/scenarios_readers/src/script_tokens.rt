@@ -1,4 +1,3 @@
-use crate::table::answered;
 use query_tokens::{
     Placed, Token, keyword_text, keywords_differ, last_line, lines_are_read_back, number,
     one_list_of_tokens, push_line, tokens,
@@ -6,6 +5,7 @@ use query_tokens::{
 use sorted_logic::Text;
 use std::alloc::Global;
 use std::test::Fail;
+use test_tables::{answered, push_bytes, push_number};
 
 /// Writes the line of the token, the token, and `|`. Names, numbers and other words have their kind in front.
 fn push_placed(alloc: Global, text: &mut String, placed: &Placed) -> Result<(), Fail> {
@@ -35,7 +35,8 @@ fn push_tokens(alloc: Global, given: &str, text: &mut String) -> Result<(), Fail
 const TOKENS: &str = " => ~
 LOAD IOS \"edge.cfg\" AS r; => 1 LOAD|1 IOS|1 \"edge.cfg\"|1 AS|1 name r|1 Semicolon|~
 1x _a a-1 007 show SHOWN => 1 word 1x|1 word _a|1 name a-1|1 digits 007|1 name show|1 name SHOWN|~
-<req>:,.=?()[]; => 1 Request|1 Colon|1 Comma|1 Dot|1 Equals|1 Question|1 Open|1 Close|1 OpenBracket|1 CloseBracket|1 Semicolon|~
+<req>:,.=?()[]; => 1 Request|1 Colon|1 Comma|1 Dot|1 Equals|1 Question|1 Open|1 Close|\
+1 OpenBracket|1 CloseBracket|1 Semicolon|~
 ";
 
 #[test]
@@ -87,13 +88,8 @@ fn wrong_bytes_end_the_tokens(rt: HostRuntime) -> Result<(), Fail> {
     Ok(())
 }
 
-fn push_number(alloc: Global, given: &str, text: &mut String) -> Result<(), Fail> {
-    let digits = Text::of(alloc, given)?;
-    match number(&digits) {
-        Some(n) => write!(text, "{n}")?,
-        None => text.push_str("none")?,
-    }
-    Ok(())
+fn push_spelled(alloc: Global, given: &str, text: &mut String) -> Result<(), Fail> {
+    push_number(text, number(&Text::of(alloc, given)?))
 }
 
 /// Texts, and the numbers that they spell: of 39 digits, below 2^128 and not, and of 40.
@@ -111,7 +107,7 @@ const NUMBERS: &str = "0 => 0~
 
 #[test]
 fn numbers_are_below_2_to_the_128(rt: HostRuntime) -> Result<(), Fail> {
-    let text = answered(rt.alloc(), NUMBERS, "~\n", push_number)?;
+    let text = answered(rt.alloc(), NUMBERS, "~\n", push_spelled)?;
     assert_eq!(rt; text.as_str(), NUMBERS);
     Ok(())
 }
@@ -154,11 +150,7 @@ fn line_of(alloc: Global, given: &str) -> Result<Vec<u8>, Fail> {
 
 fn push_written(alloc: Global, given: &str, text: &mut String) -> Result<(), Fail> {
     let bytes = line_of(alloc, given)?;
-    match str::from_utf8(bytes.as_slice()) {
-        Ok(line) => text.push_str(line)?,
-        Err(_) => text.push_str("no text")?,
-    }
-    Ok(())
+    push_bytes(text, bytes.as_slice())
 }
 
 /// Texts, and their tokens written as one line behind a comment.
@@ -167,7 +159,8 @@ const WRITTEN: &str = " => -- \n
 LOAD   IOS\"edge.cfg\"AS
 r ; => -- \nLOAD IOS \"edge.cfg\" AS r;
 ~
-EXPLORE[x:Address]r . acl . 10 : permit ( <req> )AND(src_in IN 10 .1. 1.5 0.0.0.1)UNDER a,b; => -- \nEXPLORE [x:Address] r.acl.10:permit(<req>) AND (src_in IN 10.1.1.5 0.0.0.1) UNDER a, b;
+EXPLORE[x:Address]r . acl . 10 : permit ( <req> )AND(src_in IN 10 .1. 1.5 0.0.0.1)UNDER a,b; \
+=> -- \nEXPLORE [x:Address] r.acl.10:permit(<req>) AND (src_in IN 10.1.1.5 0.0.0.1) UNDER a, b;
 ~
 EXPLORE x=f(y,<req>)OR z; => -- \nEXPLORE x = f(y, <req>) OR z;
 ~

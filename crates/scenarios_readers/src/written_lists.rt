@@ -1,8 +1,8 @@
-use crate::table::{answered, parted, push_answer};
 use ios_acl::{Acl, is_block_name, write_acl};
 use ios_lex::{Word, lines};
 use std::alloc::Global;
 use std::test::Fail;
+use test_tables::{answered, parted, push_answer};
 
 /// The list whose entries the indented lines of the text spell.
 fn list_of(alloc: Global, name: &[u8], extended: bool, text: &[u8]) -> Result<Acl, Fail> {

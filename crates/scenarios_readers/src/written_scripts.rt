@@ -1,7 +1,7 @@
-use crate::table::answered;
 use query_lang::{read_script, write_script};
 use std::alloc::Global;
 use std::test::Fail;
+use test_tables::{answered, push_bytes};
 
 /// Reads the script, and writes it.
 fn push_written(alloc: Global, given: &str, text: &mut String) -> Result<(), Fail> {
@@ -10,11 +10,7 @@ fn push_written(alloc: Global, given: &str, text: &mut String) -> Result<(), Fai
         return Ok(());
     };
     let bytes = write_script(alloc, &script)?;
-    match std::str::from_utf8(&bytes) {
-        Ok(written) => text.push_str(written)?,
-        Err(_) => text.push_str("no text")?,
-    }
-    Ok(())
+    push_bytes(text, bytes.as_slice())
 }
 
 /// A script with a statement of each kind, and what is written of it.
@@ -25,7 +21,8 @@ IS POSSIBLE ?; SHOW ONE; SHOW FIRST 007; SHOW ALL; SHOW FULL; SHOW UP TO 3;
 SHOW REALIZED; SHOW UNREALIZED; SHOW BOUNDS; SHOW PROOF;
 COMPARE r.acl.101 r."acl two".IN."b"; DECIDE r.acl.101(10.0.0.1, 7, "eth0");
 GENERATE 20 5 AS g; LINK a "e0" TO b "e1"; PATH a "e0" TO b "e1" WITHIN 4; AUDIT r.acl.101;
-CORE r.acl.101:deny WHERE src IN 10.0.0.0 0.0.0.255, port IN 80, port IN 1 TO 5; => LOAD VOCAB "v.txt";
+CORE r.acl.101:deny WHERE src IN 10.0.0.0 0.0.0.255, port IN 80, port IN 1 TO 5;
+ => LOAD VOCAB "v.txt";
 LOAD POLICY "p.txt";
 LOAD IOS "edge.cfg" AS r;
 LOAD IPTABLES "rules" AS fw;
@@ -68,11 +65,14 @@ EXPLORE (a() OR b()) AND c(); => EXPLORE (a() OR b()) AND c();
 ~
 EXPLORE NOT (a() IFF (b() IFF c())); => EXPLORE NOT (a() IFF (b() IFF c()));
 ~
-EXPLORE (a() IMPLIES b()) IMPLIES (c() IMPLIES d()); => EXPLORE (a() IMPLIES b()) IMPLIES c() IMPLIES d();
+EXPLORE (a() IMPLIES b()) IMPLIES (c() IMPLIES d());
+ => EXPLORE (a() IMPLIES b()) IMPLIES c() IMPLIES d();
 ~
-EXPLORE FORALL x : S ((EXISTS y : S (x = f(y,<req>)))); => EXPLORE FORALL x:S EXISTS y:S x = f(y, <req>);
+EXPLORE FORALL x : S ((EXISTS y : S (x = f(y,<req>))));
+ => EXPLORE FORALL x:S EXISTS y:S x = f(y, <req>);
 ~
-EXPLORE r."a b".7:permit(<req>) AND src IN 1 TO 1 AND src IN "e0" TO "e1"; => EXPLORE r."a b".7:permit(<req>) AND src IN 1 AND src IN "e0" TO "e1";
+EXPLORE r."a b".7:permit(<req>) AND src IN 1 TO 1 AND src IN "e0" TO "e1";
+ => EXPLORE r."a b".7:permit(<req>) AND src IN 1 AND src IN "e0" TO "e1";
 ~
 "#;
 

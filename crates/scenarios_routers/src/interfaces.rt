@@ -1,10 +1,9 @@
-use crate::reasons::push_reason;
-use crate::table::{answered, push_bytes};
 use ios_interface::{Draft, LineFault, Taken, one_line};
 use ios_lex::{Dotted, Word, words_in};
 use ios_route::{Interface, NatMark};
 use std::alloc::Global;
 use std::test::Fail;
+use test_tables::{answered, push_bytes, push_reason};
 
 /// Writes nothing of a line that is read, and of another that it is ignored or why it is refused.
 fn push_reading(text: &mut String, read: Result<Taken, LineFault>) -> Result<(), Fail> {
@@ -64,15 +63,18 @@ fn push_block(alloc: Global, lines: &str, text: &mut String) -> Result<(), Fail>
 const BLOCKS: &str = " => e0 7
 ip address 10.0.0.1 255.255.255.0; => e0 7 10.0.0.1/24
 ip address 10.0.0.1 255.255.255.0; ip address 10.0.0.2 255.255.0.0; => e0 7 10.0.0.2/16
-ip address 10.1.0.1 255.0.0.0 secondary; ip address 10.0.0.1 255.255.255.252; => e0 7 10.0.0.1/30 10.1.0.1/8
-ip address 1.0.0.1 0.0.0.0 secondary; ip address 2.0.0.1 255.255.255.255 secondary; => e0 7 1.0.0.1/0 2.0.0.1/32
+ip address 10.1.0.1 255.0.0.0 secondary; ip address 10.0.0.1 255.255.255.252; \
+=> e0 7 10.0.0.1/30 10.1.0.1/8
+ip address 1.0.0.1 0.0.0.0 secondary; ip address 2.0.0.1 255.255.255.255 secondary; \
+=> e0 7 1.0.0.1/0 2.0.0.1/32
 ip address 1.0.0.1 255.0.0.0; ip address 2.0.0.1 255.0.0.0 secondary; no ip address; => e0 7
 ip access-group 101 in; ip access-group edge out; ip access-group 102 in; => e0 7 in 102 out edge
 ip nat inside; => e0 7 inside
 ip nat inside; ip nat outside; => e0 7 outside
 shutdown; => e0 7 shut
 shutdown; no shutdown; => e0 7
-description to the core; ip nat; ip; no ip proxy-arp; ip nat x; => ignored, ignored, ignored, ignored, ignored, e0 7
+description to the core; ip nat; ip; no ip proxy-arp; ip nat x; \
+=> ignored, ignored, ignored, ignored, ignored, e0 7
 ";
 
 #[test]
@@ -86,8 +88,10 @@ const REFUSED: &str = "ip policy route-map m; => unmodelled ip policy, e0 7
 crypto map m; ip inspect f in; => unmodelled crypto map, unmodelled ip inspect, e0 7
 zone-member security z; ip vrf forwarding v; => unmodelled zone-member, unmodelled ip vrf, e0 7
 vrf forwarding v; ip verify unicast source; => unmodelled vrf, unmodelled ip verify, e0 7
-ip unnumbered Loopback0; ip address dhcp; => unmodelled ip unnumbered, unmodelled ip address dhcp, e0 7
-ip address negotiated; ip nat enable; => unmodelled ip address negotiated, unmodelled ip nat enable, e0 7
+ip unnumbered Loopback0; ip address dhcp; \
+=> unmodelled ip unnumbered, unmodelled ip address dhcp, e0 7
+ip address negotiated; ip nat enable; \
+=> unmodelled ip address negotiated, unmodelled ip nat enable, e0 7
 ip address; ip address 10.0.0.1; => bad entry, bad entry, e0 7
 ip address 10.0.0 255.0.0.0; ip address 10.0.0.1 /8; => bad address, bad address, e0 7
 ip address 10.0.0.1 0.0.0.255; ip address 10.0.0.1 255.0.255.0 second; => bad mask, bad mask, e0 7

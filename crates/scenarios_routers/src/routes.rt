@@ -2,8 +2,6 @@ ghost use Rattle.std.specs.Prelude.{IfOk};
 ghost use Rattle.std.specs.List.{AllByRecursion};
 ghost use Rattle.ios_route.specs.ActiveRoutes.{AreLengths};
 
-use crate::reasons::push_reason;
-use crate::table::{answered, push_bytes};
 use ios_lex::{Dotted, Word, address, lines, words_in};
 use ios_route::{
     Choice, Interface, LineFault, NatMark, RouteExit, RouteFault, Routes, StaticRoute, one_route,
@@ -11,6 +9,7 @@ use ios_route::{
 };
 use std::alloc::Global;
 use std::test::Fail;
+use test_tables::{answered, push_bytes, push_reason};
 
 /// Writes where the route leads.
 fn push_exit(text: &mut String, exit: &RouteExit) -> Result<(), Fail> {
@@ -51,7 +50,8 @@ const READ: &str = "10.0.0.0 255.0.0.0 192.0.2.1 => 10.0.0.0/8 to 192.0.2.1 at 1
 10.1.0.0 255.255.0.0 Null0 254 => 10.1.0.0/16 nowhere at 254
 192.0.2.9 255.255.255.255 Serial0/1 tag 9999999999 => 192.0.2.9/32 out Serial0/1 at 1
 10.0.0.0 255.0.0.0 Serial0/1 192.0.2.1 => 10.0.0.0/8 out Serial0/1 to 192.0.2.1 at 1
-10.0.0.0 255.0.0.0 E0/1 192.0.2.1 20 permanent name WAN tag 7 => 10.0.0.0/8 out E0/1 to 192.0.2.1 at 20
+10.0.0.0 255.0.0.0 E0/1 192.0.2.1 20 permanent name WAN tag 7 \
+=> 10.0.0.0/8 out E0/1 to 192.0.2.1 at 20
 10.0.0.0 255.0.0.0 192.0.2.1 name permanent permanent => 10.0.0.0/8 to 192.0.2.1 at 1
 ";
 

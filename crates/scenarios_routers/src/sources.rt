@@ -1,11 +1,11 @@
-use crate::table::{answered, parted};
 use ios_acl::Packet;
-use ios_config::{SourceChoice, read_config, sources};
+use ios_config::{NameTable, Router, SourceChoice, read_config};
 use ios_lex::{Dotted, Word, address, lines, words_in};
 use ios_nat::NatTable;
 use ios_route::{Interface, NatMark};
 use std::alloc::Global;
 use std::test::Fail;
+use test_tables::{answered, parted};
 
 const LISTS: &str = "access-list 1 permit 10.0.0.0 0.0.0.255
 access-list 2 permit 10.0.1.0 0.0.0.255
@@ -69,6 +69,15 @@ fn interfaces(alloc: Global) -> Result<Vec<Interface>, Fail> {
     Ok(all)
 }
 
+/// A router whose entries also name a pool and an interface that are not there, as none does that was read.
+fn router(alloc: Global) -> Result<Router, Fail> {
+    let mut names = NameTable::new(alloc);
+    let mut router = read_config(alloc, LISTS.as_bytes(), &mut names)?;
+    router.interfaces = interfaces(alloc)?;
+    router.nat = translations(alloc)?;
+    Ok(router)
+}
+
 /// The packet of the words `protocol address port`.
 fn packet_of(words: &str) -> Result<Packet, Fail> {
     let (proto, rest) = parted(words)?;
@@ -107,18 +116,7 @@ fn push_sources(alloc: Global, given: &str, text: &mut String) -> Result<(), Fai
     let (exit, rest) = parted(rest)?;
     let packet = packet_of(rest)?;
     let (entry, exit) = (entry.parse::<u16>()?, exit.parse::<u16>()?);
-    let router = read_config(alloc, LISTS.as_bytes())?;
-    let interfaces = interfaces(alloc)?;
-    let nat = translations(alloc)?;
-    let choice = sources(
-        router.lists.as_slice(),
-        interfaces.as_slice(),
-        &nat,
-        entry,
-        exit,
-        &packet,
-    );
-    push_choice(text, choice)
+    push_choice(text, router(alloc)?.sources(entry, exit, &packet))
 }
 
 /// Numbers of interfaces, a protocol, a source and its port, and what becomes of the source.

@@ -1,9 +1,8 @@
-use crate::reasons::push_reason;
-use crate::table::{answered, parted, push_bytes};
 use ios_lex::{Dotted, address, words_in};
 use ios_nat::{DynamicFrom, NatFault, NatTable, one_reading};
 use std::alloc::Global;
 use std::test::Fail;
+use test_tables::{answered, parted, push_bytes, push_reason};
 
 /// Writes what the table says of a line: `read`, or the reason of its refusal.
 fn push_reading(text: &mut String, read: Result<(), NatFault>) -> Result<(), Fail> {
@@ -16,21 +15,12 @@ fn push_reading(text: &mut String, read: Result<(), NatFault>) -> Result<(), Fai
 
 /// The rows with what the table says of their lines, one after another. The first line has number 1.
 fn readings(alloc: Global, table: &mut NatTable, rows: &str) -> Result<String, Fail> {
-    let mut text = String::new(alloc);
-    let mut rest = rows;
-    for row in 0..rows.len() {
-        let Some((line, others)) = rest.split_once(" => ") else {
-            break;
-        };
-        text.push_str(line)?;
-        text.push_str(" => ")?;
+    let mut number: u64 = 0;
+    answered(alloc, rows, "\n", |alloc, line, text| {
+        number = number.saturating_add(1);
         let words = words_in(alloc, line.as_bytes())?;
-        push_reading(&mut text, table.read_line(row as u64 + 1, words.as_slice()))?;
-        text.push('\n')?;
-        let (_, next) = others.split_once('\n').ok_or("a row without an end")?;
-        rest = next;
-    }
-    Ok(text)
+        push_reading(text, table.read_line(number, words.as_slice()))
+    })
 }
 
 /// Writes how many static entries of each form the table has.

@@ -1,9 +1,9 @@
-use crate::run_of::{ANSWER, LISTS, SCRIPT, command, files_of, push_command};
-use crate::table::answered;
+use crate::run_of::{ANSWER, LISTS, SCRIPT, command, files_of, push_brief, push_command};
 use mg_outside::{MemFiles, MemSink, SureFiles, SureSink};
 use session::{behind_name, run};
 use std::alloc::Global;
 use std::test::Fail;
+use test_tables::answered;
 
 fn push_without_files(alloc: Global, word: &str, text: &mut String) -> Result<(), Fail> {
     push_command(
@@ -28,7 +28,7 @@ const WORDS: &str = "s => 3 read fault: s
 
 #[test]
 fn a_missing_script_and_bad_words_are_told(rt: HostRuntime) -> Result<(), Fail> {
-    let text = answered(rt.alloc(), WORDS, push_without_files)?;
+    let text = answered(rt.alloc(), WORDS, "~\n", push_without_files)?;
     assert_eq!(rt; text.as_str(), WORDS);
     Ok(())
 }
@@ -38,37 +38,26 @@ fn push_cut(alloc: Global, given: &str, text: &mut String) -> Result<(), Fail> {
     let mut out = MemSink::new(alloc);
     out.fail_at(call.parse::<u64>()?, after.parse::<u64>()?)?;
     let mut files = files_of(alloc, SCRIPT, LISTS)?;
-    push_command(alloc, "s", &mut files, out, text)
+    let mut taken = String::new(alloc);
+    push_command(alloc, "s", &mut files, out, &mut taken)?;
+    push_brief(text, taken.as_str())
 }
 
-/// Which write fails, and after how many bytes, with the status and all that the sink took: a front of the run's text.
+/// Which write fails, and after how many bytes, with the status and all that the sink took, briefly: a front of the run's
+/// text.
 const CUT: &str = "1 5 => 4 loade~
 2 5 => 4 loaded r: 0 interfaces, 1 lists, 0 translations, 0 routes, 0 lines ignored
 scena~
 3 5 => 4 loaded r: 0 interfaces, 1 lists, 0 translations, 0 routes, 0 lines ignored
 scenario 1
-  entry = 0
-  src_in = 10.1.1.4
-  dst_in = 0.0.0.0
-  sport_in = 0
-  dport_in = 0
-  proto = 0
-  flags = 0
-  icmp_type = 0
-  icmp_code = 0
-  src_out = 0.0.0.0
-  dst_out = 0.0.0.0
-  sport_out = 0
-  dport_out = 0
-  next_hop = 0.0.0.0
-  exit = 0
+0 10.1.1.4 0.0.0.0 0 0 0 0 0 0 0.0.0.0 0.0.0.0 0 0 0.0.0.0 0
   + src_in IN 10.1.1.4 0.0.0.1
 deny ~
 ";
 
 #[test]
 fn a_failing_sink_is_left_with_a_front(rt: HostRuntime) -> Result<(), Fail> {
-    let text = answered(rt.alloc(), CUT, push_cut)?;
+    let text = answered(rt.alloc(), CUT, "~\n", push_cut)?;
     assert_eq!(rt; text.as_str(), CUT);
     Ok(())
 }

@@ -2,6 +2,7 @@ use mg_outside::{Files, MemFiles, MemSink};
 use session::{behind_name, run};
 use std::alloc::Global;
 use std::test::Fail;
+use test_tables::push_bytes;
 
 /// A script of three questions over the lists below, and the text of its run.
 pub(crate) const SCRIPT: &str = "LOAD IOS \"a\" AS r;
@@ -73,11 +74,7 @@ pub(crate) fn push_command<F: Files>(
     let words = command(alloc, word)?;
     let ended = run(alloc, behind_name(words.as_slice()), files, &mut out);
     write!(text, "{} ", ended.status)?;
-    match str::from_utf8(out.bytes()) {
-        Ok(written) => text.push_str(written)?,
-        Err(_) => text.push_str("no text")?,
-    }
-    Ok(())
+    push_bytes(text, out.bytes())
 }
 
 /// Writes the status and the text of the run of this script, where `a` has these lists.
@@ -89,4 +86,26 @@ pub(crate) fn push_run(
 ) -> Result<(), Fail> {
     let mut files = files_of(alloc, script, lists)?;
     push_command(alloc, "s", &mut files, MemSink::new(alloc), text)
+}
+
+/// Writes the text of a run briefly: the values of a scenario's fields on one line, without their names.
+pub(crate) fn push_brief(text: &mut String, run: &str) -> Result<(), Fail> {
+    let mut rest = run;
+    for _ in 0..run.len() {
+        let Some((line, others)) = rest.split_once('\n') else {
+            break;
+        };
+        push_brief_line(text, line)?;
+        rest = others;
+    }
+    Ok(text.push_str(rest)?)
+}
+
+/// Writes the line, and of a field the value alone. The last field ends the line.
+fn push_brief_line(text: &mut String, line: &str) -> Result<(), Fail> {
+    let Some((name, value)) = line.split_once(" = ") else {
+        return Ok(write!(text, "{line}\n")?);
+    };
+    let end = if name == "  exit" { '\n' } else { ' ' };
+    Ok(write!(text, "{value}{end}")?)
 }

@@ -1,10 +1,11 @@
-use crate::table::answered;
 use frame::{Pattern, Test};
 use ios_acl::{Packet, Verdict};
 use ios_config::Field;
-use session::{decision_text, loaded_text, no_scenario_text, scenario_text};
+use ios_names::NameTable;
+use session::{Counts, KnownNames, decision_text, loaded_text, no_scenario_text, scenario_text};
 use std::alloc::Global;
 use std::test::Fail;
+use test_tables::answered;
 
 const SEGMENT: Packet = Packet {
     src: 0x0a01_0105,
@@ -85,8 +86,10 @@ const SCENARIO: &str = "scenario 1
 
 #[test]
 fn a_scenario_shows_its_values_and_tests(rt: HostRuntime) -> Result<(), Fail> {
-    let text = scenario_text(rt.alloc(), &SEGMENT, &TESTS)?;
-    assert_eq!(rt; text.as_str(), SCENARIO);
+    let table = NameTable::new(rt.alloc());
+    let names = KnownNames::of(&table, 0);
+    let text = scenario_text(rt.alloc(), &names, &SEGMENT, &TESTS)?;
+    assert_eq!(rt; text.as_slice(), SCENARIO.as_bytes());
     Ok(())
 }
 
@@ -118,17 +121,24 @@ deny default => deny by default
 
 #[test]
 fn decisions_are_told(rt: HostRuntime) -> Result<(), Fail> {
-    let text = answered(rt.alloc(), DECISIONS, push_decision)?;
+    let text = answered(rt.alloc(), DECISIONS, "~\n", push_decision)?;
     assert_eq!(rt; text.as_str(), DECISIONS);
     Ok(())
 }
 
 #[test]
 fn loads_are_told(rt: HostRuntime) -> Result<(), Fail> {
-    let text = loaded_text(rt.alloc(), "edge", 2, 13)?;
+    let counts = Counts {
+        interfaces: 3,
+        lists: 2,
+        translations: 5,
+        routes: 1,
+        ignored: 13,
+    };
+    let text = loaded_text(rt.alloc(), "edge", counts)?;
     assert_eq!(rt;
         text.as_str(),
-        "loaded edge: 0 interfaces, 2 lists, 0 translations, 0 routes, 13 lines ignored\n"
+        "loaded edge: 3 interfaces, 2 lists, 5 translations, 1 routes, 13 lines ignored\n"
     );
     Ok(())
 }

@@ -4,6 +4,7 @@ ghost use Rattle.circuit.specs.Value.{AreNodes};
 use circuit::{Circuit, NoMemory, Node, gates_are_tests, least};
 use std::alloc::Global;
 use std::test::Fail;
+use test_tables::{answered, parted, push_number};
 
 /// The least inputs that make the root true, `1` for true and `0` for false; or `none`.
 fn least_inputs(alloc: Global, circuit: &Circuit, root: Node) -> Result<String, Fail>
@@ -148,25 +149,16 @@ fn number_of(values: &[bool]) -> u128 {
     number
 }
 
-/// Writes the number that the values are the bits of, or `none`.
-fn push_number(text: &mut String, values: Option<Vec<bool>>) -> Result<(), Fail> {
-    match values {
-        Some(values) => write!(text, "{}", number_of(values.as_slice()))?,
-        None => text.push_str("none")?,
-    }
-    Ok(())
-}
-
 /// Writes the least number of so many bits in a range: the number of bits and the two ends are given.
 fn push_least_in_range(alloc: Global, given: &str, text: &mut String) -> Result<(), Fail> {
-    let (count, ends) = given.split_once(' ').ok_or("no ends")?;
-    let (lo, hi) = ends.split_once(' ').ok_or("one end")?;
+    let (count, ends) = parted(given)?;
+    let (lo, hi) = parted(ends)?;
     let count = count.parse::<usize>()?;
     if count > 128 {
         return Err("too many bits")?;
     }
     let values = least_in_range(alloc, count, lo.parse::<u128>()?, hi.parse::<u128>()?)?;
-    push_number(text, values)
+    push_number(text, values.map(|values| number_of(values.as_slice())))
 }
 
 /// How many bits there are, and both ends, and the least number of the range: ends above the bits, the wrong way round,
@@ -180,37 +172,23 @@ const RANGES: &str = "4 5 9 => 5
 4 16 340282366920938463463374607431768211455 => none
 0 0 0 => 0
 0 1 1 => none
-128 340282366920938463463374607431768211455 340282366920938463463374607431768211455 => 340282366920938463463374607431768211455
-128 170141183460469231731687303715884105728 340282366920938463463374607431768211455 => 170141183460469231731687303715884105728
+128 340282366920938463463374607431768211455 340282366920938463463374607431768211455 \
+=> 340282366920938463463374607431768211455
+128 170141183460469231731687303715884105728 340282366920938463463374607431768211455 \
+=> 170141183460469231731687303715884105728
 ";
-
-/// The table with the least numbers of now.
-fn least_numbers(alloc: Global, table: &str) -> Result<String, Fail> {
-    let mut text = String::new(alloc);
-    let mut rest = table;
-    for _ in 0..table.len() {
-        let Some((row, others)) = rest.split_once('\n') else {
-            break;
-        };
-        let (given, _) = row.split_once(" => ").ok_or("a row without an answer")?;
-        write!(text, "{given} => ")?;
-        push_least_in_range(alloc, given, &mut text)?;
-        text.push('\n')?;
-        rest = others;
-    }
-    Ok(text)
-}
 
 #[test]
 fn range_has_both_ends(rt: HostRuntime) -> Result<(), Fail> {
-    let text = least_numbers(rt.alloc(), RANGES)?;
+    let text = answered(rt.alloc(), RANGES, "\n", push_least_in_range)?;
     assert_eq!(rt; text.as_str(), RANGES);
     Ok(())
 }
 
 /// A condition and two parts, and the choice between the parts; and with it, that the last part is false.
 fn choice(circuit: &mut Circuit) -> Result<(Node, Node), NoMemory>
-    ensures { IfOk result (λ nodes. (nodes.0 < length circuit.new) × (nodes.1 < length circuit.new)) }
+    ensures { IfOk result (λ nodes.
+        (nodes.0 < length circuit.new) × (nodes.1 < length circuit.new)) }
 {
     let [condition, a, b] = three_inputs(circuit)?;
     let choice = circuit.ite(condition, a, b)?;

@@ -2,7 +2,7 @@
 //! about an access list (`frame`), a module for each crate that is tested.
 //!
 //! A test of circuits makes one and compares its least inputs, as one text, with those that were worked by hand. A test of
-//! questions is a table of rows, ` => ` between the question and its packet. Nothing stands above this crate.
+//! questions is a table (`test_tables`). Nothing stands above this crate.
 #![tactic(auto)]
 
 #[cfg(test)]

@@ -8,6 +8,7 @@ use ios_acl::{Entry, Packet, Ports, Verdict};
 use ios_config::Field;
 use std::alloc::Global;
 use std::test::Fail;
+use test_tables::{answered, parted, push_packet};
 
 /// An entry that matches every packet.
 const EVERY: Entry = Entry {
@@ -156,23 +157,10 @@ fn pattern_of(text: &str) -> Result<Pattern, Fail> {
 fn test_of(text: &str) -> Result<Test, Fail>
     ensures { IfOk result IsOfPacket }
 {
-    let (name, pattern) = text.split_once(' ').ok_or("a test without a blank")?;
+    let (name, pattern) = parted(text)?;
     let field = field_named(name)?;
     let pattern = pattern_of(pattern)?;
     Ok(Test { field, pattern })
-}
-
-/// Writes the packet, its addresses in hexadecimal digits, or `none`.
-fn push_packet(text: &mut String, packet: Option<Packet>) -> Result<(), Fail> {
-    match packet {
-        Some(p) => write!(
-            text,
-            "{:x} {:x} {} {} {} {} {} {}",
-            p.src, p.dst, p.sport, p.dport, p.proto, p.flags, p.icmp_type, p.icmp_code
-        )?,
-        None => text.push_str("none")?,
-    }
-    Ok(())
 }
 
 /// The first packet that passes the tests, of which there are none, one, or two with ` and ` between them.
@@ -193,9 +181,9 @@ fn first_passing(
     Ok(first_packet(alloc, entries, verdict, &[test])?)
 }
 
-/// Writes the first packet of a question: a verdict, the names of entries, a colon and tests.
+/// Writes the first packet of a question, or `none`: a verdict, the names of entries, a colon and tests.
 fn push_first(alloc: Global, question: &str, text: &mut String) -> Result<(), Fail> {
-    let (verdict, rest) = question.split_once(' ').ok_or("no verdict")?;
+    let (verdict, rest) = parted(question)?;
     let (names, tests) = rest.split_once(':').ok_or("no colon")?;
     let verdict = if verdict == "permit" {
         Verdict::Permit
@@ -203,25 +191,10 @@ fn push_first(alloc: Global, question: &str, text: &mut String) -> Result<(), Fa
         Verdict::Deny
     };
     let entries = entries_named(alloc, names)?;
-    let packet = first_passing(alloc, entries.as_slice(), verdict, tests)?;
-    push_packet(text, packet)
-}
-
-/// The table with the packets of now.
-fn first_packets(alloc: Global, table: &str) -> Result<String, Fail> {
-    let mut text = String::new(alloc);
-    let mut rest = table;
-    for _ in 0..table.len() {
-        let Some((row, others)) = rest.split_once('\n') else {
-            break;
-        };
-        let (question, _) = row.split_once(" => ").ok_or("a row without an answer")?;
-        write!(text, "{question} => ")?;
-        push_first(alloc, question, &mut text)?;
-        text.push('\n')?;
-        rest = others;
+    match first_passing(alloc, entries.as_slice(), verdict, tests)? {
+        Some(packet) => push_packet(text, &packet),
+        None => Ok(text.push_str("none")?),
     }
-    Ok(text)
 }
 
 /// One answer or none; the first of two entries decides.
@@ -234,7 +207,7 @@ permit : => none
 
 #[test]
 fn first_is_the_least(rt: HostRuntime) -> Result<(), Fail> {
-    let text = first_packets(rt.alloc(), FIRST)?;
+    let text = answered(rt.alloc(), FIRST, "\n", push_first)?;
     assert_eq!(rt; text.as_str(), FIRST);
     Ok(())
 }
@@ -252,7 +225,7 @@ permit established :flags 0/59 => 0 0 0 0 0 16 0 0
 
 #[test]
 fn each_part_of_an_entry_matches(rt: HostRuntime) -> Result<(), Fail> {
-    let text = first_packets(rt.alloc(), PARTS)?;
+    let text = answered(rt.alloc(), PARTS, "\n", push_first)?;
     assert_eq!(rt; text.as_str(), PARTS);
     Ok(())
 }
@@ -266,7 +239,7 @@ deny lower-half none : => 80000000 0 0 0 0 0 0 0
 
 #[test]
 fn denied_is_not_permitted(rt: HostRuntime) -> Result<(), Fail> {
-    let text = first_packets(rt.alloc(), DENIED)?;
+    let text = answered(rt.alloc(), DENIED, "\n", push_first)?;
     assert_eq!(rt; text.as_str(), DENIED);
     Ok(())
 }
@@ -282,7 +255,7 @@ permit every :src_in 1-1 and src_in 2-2 => none
 
 #[test]
 fn tests_narrow(rt: HostRuntime) -> Result<(), Fail> {
-    let text = first_packets(rt.alloc(), TESTED)?;
+    let text = answered(rt.alloc(), TESTED, "\n", push_first)?;
     assert_eq!(rt; text.as_str(), TESTED);
     Ok(())
 }

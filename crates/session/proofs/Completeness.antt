@@ -37,7 +37,7 @@ unread_failed file told bytes is_told within failed end text (too_long given mor
 state_is_one : (told : List ℕ → Option (List ℕ)) (state : State) (what : Kind) (text other : List (List ℕ)) (new last : State) → TellsFile told what → Carries told state what text new → Carries told state what other last → last ≡ new
 state_is_one told state _ _ _ _ _ tells (loads file name bytes router free gives reads) (loads _ _ bytes' router' free' gives' reads') =
     let same = given_once (told file) bytes bytes' tells gives gives' in
-    let router_same = routers_same bytes router' router (rw same at reads') reads in
+    let router_same = routers_same state.names bytes router' router (rw same at reads') reads in
     ap (with_router state name) router_same
 state_is_one told state _ _ _ _ _ tells (explores explore question found known is_asked named fit) (explores _ question' found' known' is_asked' named' fit') =
     let same : question' ≡ question = one_question explore.formula question' question is_asked'.asks is_asked.asks in
@@ -51,7 +51,7 @@ abbrev Failed : Option (List ℕ) → Type 0
 Failed failed = (file : List ℕ) × (failed ≡ Some file)
 
 -- a statement that is carried out is not refused
-not_refused : (told : List ℕ → Option (List ℕ)) (state : State) (what : Kind) (text : List (List ℕ)) (new : State) (why : _) → Carries told state what text new → IsRefused state.library what why → ⊥
+not_refused : (told : List ℕ → Option (List ℕ)) (state : State) (what : Kind) (text : List (List ℕ)) (new : State) (why : _) → Carries told state what text new → IsRefused state what why → ⊥
 not_refused told state _ _ _ _ (loads file name bytes router free gives reads) (not_built _ missing) = cc
 not_refused told state _ _ _ _ (loads file name bytes router free gives reads) (taken _ _ used) = cc
 not_refused told state _ _ _ _ (explores explore question found known is_asked named fit) (not_built _ missing) = cc
@@ -76,7 +76,7 @@ stops_by_fault script told line state _ _ _ _ _ _ tells (loads file name bytes r
     (file, unread_failed file (told file) bytes (some.1 ∙ ap Some (sym same)) gives.within failed end text fails)
 stops_by_fault script told line state _ _ _ _ _ _ tells (loads file name bytes router free gives reads) (refused_file _ _ _ bytes' place why _ free' gives' is_refused says) =
     let same = given_once (told file) bytes bytes' tells gives gives' in
-    absurd (read_is_not_refused bytes router place why reads (rw same at is_refused))
+    absurd (read_is_not_refused state.names bytes router place why reads (rw same at is_refused))
 
 -- a run that is stopped is not done
 unread_not_done : (file : List ℕ) (told failed : Option (List ℕ)) (end : Cause) (text : List ℕ) → end ≡ cause.Done → IsUnread file told failed end text → ⊥

@@ -1,4 +1,5 @@
 pub mod Places
+pub mod KeptQuestions
 pub mod Known
 pub mod Writing
 pub mod Ends

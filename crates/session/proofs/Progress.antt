@@ -6,7 +6,6 @@ use Rattle.mg_outside.specs.Reading.{Gives}
 use Rattle.ios_acl.specs.List.{AccessList}
 use Rattle.ios_config.specs.Request.{packet_fields}
 use Rattle.ios_config.proofs.SomeReading.{some_reading}
-use Rattle.frame.specs.Question.{Question}
 use Rattle.frame.proofs.FirstOrNone.{first_or_none}
 use Rattle.list_questions.specs.declared.packet.LiteralFault.{LiteralFault}
 use Rattle.list_questions.specs.declared.question.ListQuestion.{ListQuestion}
@@ -26,7 +25,7 @@ use Rattle.session.specs.Library.{is_taken, list_at_path, list_of}
 use Rattle.session.specs.Order.{is_show}
 use Rattle.session.specs.Policies.{explore_fault}
 use Rattle.session.specs.RunLines.{refused_line}
-use Rattle.session.specs.Steps.{State, max_bytes, Carries, loads, explores, shows, decides, first, none as no_first, reason_of, too_long, IsRefusal, IsRefused, not_built, taken, unknown, no_question, past, no_list, arity, literal, Stops, refused, unread, refused_file}
+use Rattle.session.specs.Steps.{State, AskedQuestion, max_bytes, Carries, loads, explores, shows, decides, first, none as no_first, ios_reason, too_long, IsRefusal, IsRefused, not_built, taken, unknown, no_question, past, no_list, arity, literal, Stops, refused, unread, refused_file}
 use Rattle.session.proofs.Known.{asked_is_found}
 
 pub data Outcome (script : List ℕ) (told : List ℕ → Option (List ℕ)) (line : ℕ) (state : State) (what : Kind) : Type 0 where
@@ -42,14 +41,14 @@ module _ (script : List ℕ) (told : List ℕ → Option (List ℕ)) (line : ℕ
   Stays what = Outcome script told line state what → ⊥
 
   -- a statement that is refused
-  is_stopped : (what : Kind) (why : Reason) → IsRefused state.library what why → Outcome script told line state what
+  is_stopped : (what : Kind) (why : Reason) → IsRefused state what why → Outcome script told line state what
   is_stopped what why is_refused = stops _ _ _ (refused what why _ _ is_refused (refusal script line why))
 
   load_given : (file name : List ℕ) → is_taken state.library name ≡ false → (bytes : List ℕ) → Gives (told file) max_bytes bytes → Stays (kind.LoadIos file name) → ⊥
   load_given file name free bytes gives stays =
-      some_reading bytes
+      some_reading state.names bytes
       (λ router reads. stays (goes_on _ _ (loads file name bytes router free gives reads)))
-      (λ place why is_refused. stays (stops _ _ _ (refused_file file name _ bytes place why _ free gives is_refused (refusal file place (reason_of why)))))
+      (λ place why is_refused. stays (stops _ _ _ (refused_file file name _ bytes place why _ free gives is_refused (refusal file place (ios_reason why)))))
 
   load_told : (file name : List ℕ) → is_taken state.library name ≡ false → (held : Option (List ℕ)) → told file ≡ held → Stays (kind.LoadIos file name) → ⊥
   load_told file name free None is stays = load_given file name free [] (rw is (record { held = tt; within = omega arith })) stays
@@ -74,25 +73,25 @@ module _ (script : List ℕ) (told : List ℕ → Option (List ℕ)) (line : ℕ
       let found = asked_is_found state.library explore question known is_asked in
       stays (explore_fits explore question found.0 known is_asked found.1 (list_all test_fits question.tests) refl))))
 
-  decide_fits : (list : Path) (packet : List Literal) (found : AccessList) → list_at_path state.library list.parts ≡ Some found → length packet ≡ 8 → (fault : Option LiteralFault) → literal_fault packet_fields packet ≡ fault → Outcome script told line state (kind.Decide list packet)
+  decide_fits : (list : Path) (packet : List Literal) (found : AccessList) → list_at_path state.library list.parts ≡ Some found → length packet ≡ 8 → (fault : Option LiteralFault) → literal_fault state.names packet_fields packet ≡ fault → Outcome script told line state (kind.Decide list packet)
   decide_fits list packet found named eight (Some fault) wrong = is_stopped _ _ (literal list packet found fault named eight wrong)
   decide_fits list packet found named eight None fits =
-      let is = literals_are packet eight fits in
+      let is = literals_are state.names packet eight fits in
       goes_on _ _ (decides list packet found is.0 named eight fits is.1)
 
   decide_found : (list : Path) (packet : List Literal) (found : AccessList) → list_at_path state.library list.parts ≡ Some found → Stays (kind.Decide list packet) → ⊥
   decide_found list packet found named stays =
-      stays (is_stopped _ _ (arity list packet found named (λ eight. stays (decide_fits list packet found named eight (literal_fault packet_fields packet) refl))))
+      stays (is_stopped _ _ (arity list packet found named (λ eight. stays (decide_fits list packet found named eight (literal_fault state.names packet_fields packet) refl))))
 
   decide_goes : (list : Path) (packet : List Literal) (found : Option AccessList) → list_at_path state.library list.parts ≡ found → Stays (kind.Decide list packet) → ⊥
   decide_goes list packet None none stays = stays (is_stopped _ _ (no_list list packet none))
   decide_goes list packet (Some found) named stays = decide_found list packet found named stays
 
-  show_goes : (question : Option Question) → state.question ≡ question → is_some question ≡ true → Stays kind.ShowOne → ⊥
+  show_goes : (question : Option AskedQuestion) → state.question ≡ question → is_some question ≡ true → Stays kind.ShowOne → ⊥
   show_goes None kept asked stays = false≢true asked
   show_goes (Some question) kept asked stays =
-      first_or_none question
-      (λ request is_first. stays (goes_on _ _ (shows question (scenario question.tests request) kept (first request is_first))))
+      first_or_none question.question
+      (λ request is_first. stays (goes_on _ _ (shows question (scenario question.names question.question.tests request) kept (first request is_first))))
       (λ no. stays (goes_on _ _ (shows question no_scenario kept (no_first no))))
 
   -- it is absurd that a statement does neither

@@ -1,5 +1,5 @@
 -- What the calls of a run say of what they did. No public call is stated by this.
-use Rattle.std.specs.Prelude.{◌≡◌, ℕ, Bool, false, List, [], ◌∷◌, length, Option, None}
+use Rattle.std.specs.Prelude.{◌≡◌, ℕ, Bool, false, List, [], ◌∷◌, Option, None}
 use Rattle.mg_outside.specs.Effects.{HasRead, HasWritten}
 use Rattle.mg_outside.specs.Logs.{FileLog, SinkLog}
 use Rattle.mg_outside.specs.declared.files.FileFault.{FileFault}
@@ -10,9 +10,6 @@ use Rattle.session.specs.declared.ended.Cause.{Cause}
 use Rattle.session.specs.declared.ended.Cause.TheVariants as cause
 use Rattle.session.specs.declared.ended.Reason.{Reason}
 use Rattle.session.specs.declared.ended.Reason.TheVariants as reason
-use Rattle.ios_config.specs.Reading.{Router}
-use Rattle.session.specs.Text.{loaded_line}
-use Rattle.session.specs.Library.{defined_lists}
 use Rattle.session.specs.Run.{IsCutShort, IsCut, IsSaid}
 use Rattle.query_lang.specs.declared.script.Kind.{Kind}
 use Rattle.session.specs.Steps.{State, reads_of, Carries}
@@ -25,10 +22,6 @@ pub record CutsPiece (before now : SinkLog) (piece : List ℕ) (end : Cause) : T
   pub may : IsCutShort end
   pub is_cut : IsCut piece end taken refused
   pub written : HasWritten before now (taken ∷ []) refused
-
--- the line of a router that was loaded
-abbrev pub router_line : List ℕ → Router → List ℕ
-router_line name router = loaded_line name (length (defined_lists router)) router.ignored
 
 -- the piece was cut, or memory was wanting before it was written
 pub data CutsOrWants (before now : SinkLog) (piece : List ℕ) (end : Cause) : Type 0 where

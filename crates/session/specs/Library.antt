@@ -4,7 +4,7 @@ use Rattle.std.specs.Bool.{if◌then◌else◌}
 use Rattle.std.specs.List.{list_any, filter}
 use Rattle.std.specs.Str.{bytes_eq}
 use Rattle.ios_acl.specs.List.{AccessList}
-use Rattle.ios_config.specs.Reading.{Router}
+use Rattle.ios_config.specs.Router.{Router}
 
 pub record Loaded : Type 0 where
   pub name : List ℕ

@@ -14,7 +14,7 @@ use Rattle.session.specs.Steps.{State, max_bytes, reads_of, script_reason, Carri
 use Rattle.session.specs.RunLines.{usage}
 
 abbrev pub no_routers : State
-no_routers = record { library = []; question = None }
+no_routers = record { library = []; names = []; question = None }
 
 -- a run may be cut short by these, wherever it stands
 abbrev pub IsCutShort : Cause → Type 0

@@ -1,12 +1,12 @@
 ghost use Rattle.std.specs.Prelude.{◌≡◌, ℕ, List, Option, None, IsSome, IfOk, OnOk, IfErr};
-ghost use Rattle.std.specs.String.{string_bytes};
 ghost use Rattle.std.specs.List.{AllByRecursion, list_all};
-ghost use Rattle.frame.specs.Question.{asked, IsOfPacket as IsAskable};
+ghost use Rattle.frame.specs.Question.{IsOfPacket as IsAskable};
 ghost use Rattle.list_questions.specs.Ranges.{test_fits};
 ghost use Rattle.mg_outside.specs.Effects.{Performs};
 ghost use Rattle.mg_outside.specs.Logs.{FileLog};
 ghost use Rattle.query_lang.specs.declared.script.Kind.TheVariants as kind;
 ghost use Rattle.session.specs.Endings.{IsCarriedOut};
+ghost use Rattle.session.specs.Kept.{posed};
 ghost use Rattle.session.specs.Policies.{explore_fault};
 ghost use Rattle.session.specs.Run.{EndsAt, IsCutShort};
 ghost use Rattle.session.specs.Steps.{IsShown};
@@ -106,19 +106,19 @@ pub fn show<S: Sink>(alloc: Global, state: &State, out: &mut S) -> Result<(), Ca
     let Ok(text) = shown_text(alloc, &question) else {
         return Err(Cause::NoMemory);
     };
-    write(out, text.as_bytes())
+    write(out, text.as_slice())
 }
 
 /// The text of the first scenario, or that there is none.
-fn shown_text(alloc: Global, question: &Question<'_>) -> Result<String, AllocError>
+fn shown_text(alloc: Global, question: &Question<'_>) -> Result<Vec<u8>, AllocError>
     requires { AllByRecursion IsAskable question.now.tests.now }
     ensures { IfOk result (λ text. IsShown
-        (asked question.now.entries.now question.now.verdict question.now.tests.now)
-        (string_bytes text)) }
+        (posed question.now.entries.now question.now.verdict question.now.tests.now
+        question.now.names) text.items) }
 {
     let first = first_packet(alloc, question.entries, question.verdict, question.tests)?;
     match first {
-        Some(packet) => scenario_text(alloc, &packet, question.tests),
-        None => String::from_str(alloc, no_scenario_text()),
+        Some(packet) => scenario_text(alloc, &question.names, &packet, question.tests),
+        None => Vec::from_slice(alloc, no_scenario_text().as_bytes()),
     }
 }

@@ -37,7 +37,7 @@ pub fn decide<S: Sink>(
     if packet.len() != 8 {
         return Err(refuse_line(alloc, at, Reason::Arity, out));
     }
-    let packet = match packet_of(packet) {
+    let packet = match packet_of(state.names(), packet) {
         Ok(packet) => packet,
         Err(fault) => return Err(refuse_line(alloc, at, reason(fault), out)),
     };

@@ -1,4 +1,3 @@
-use ios_config::ConfigReason;
 use ios_lex::{IosReason, Word};
 use query_lang::ScriptReason;
 use sorted_logic::Text;
@@ -52,7 +51,7 @@ pub enum Reason {
 
 impl Reason {
     ghost use Rattle.std.specs.Prelude.{◌≡◌};
-    ghost use Rattle.session.specs.Steps.{ios_reason, reason_of, script_reason};
+    ghost use Rattle.session.specs.Steps.{ios_reason, script_reason};
 
     /// The reason of a script's token.
     pub(crate) fn of_script(why: ScriptReason) -> Reason
@@ -66,16 +65,7 @@ impl Reason {
     }
 
     /// The reason of a configuration's line.
-    pub(crate) fn of(why: ConfigReason) -> Reason
-        ensures { result ≡ reason_of why }
-    {
-        match why {
-            ConfigReason::Ios(why) => Reason::of_ios(why),
-            ConfigReason::NotBuilt => Reason::NotBuilt,
-        }
-    }
-
-    fn of_ios(why: IosReason) -> Reason
+    pub(crate) fn of_ios(why: IosReason) -> Reason
         ensures { result ≡ ios_reason why }
     {
         match why {

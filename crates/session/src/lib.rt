@@ -6,9 +6,11 @@
 #![tactic(auto)]
 
 mod asking;
+mod counts;
 mod deciding;
 mod ended;
 mod endings;
+mod known_names;
 mod library;
 mod loading;
 mod locate;
@@ -22,7 +24,9 @@ mod text;
 mod value;
 mod words;
 
+pub use counts::Counts;
 pub use ended::{Cause, Ended, Reason};
+pub use known_names::KnownNames;
 pub use program::run;
 pub use std::alloc::AllocError as NoMemory;
 pub use text::{decision_text, loaded_text, no_scenario_text, scenario_text};

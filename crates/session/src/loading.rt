@@ -1,16 +1,17 @@
 ghost use Rattle.std.specs.Prelude.{◌≡◌, ◌∷◌, [], ℕ, List, false, OnOk, IfErr};
 ghost use Rattle.mg_outside.specs.Effects.{HasWritten, Performs};
-ghost use Rattle.session.specs.Endings.{CutsOrWants, IsCarriedOut, router_line};
+ghost use Rattle.session.specs.Endings.{CutsOrWants, IsCarriedOut};
+ghost use Rattle.session.specs.Kept.{adding};
 ghost use Rattle.session.specs.Run.{EndsAt, IsCutShort};
 ghost use Rattle.query_lang.specs.declared.script.Kind.TheVariants as kind;
-ghost use Rattle.session.specs.Steps.{with_router};
+ghost use Rattle.session.specs.Text.{router_line};
 
+use crate::counts::counts_of;
 use crate::ended::{Cause, Reason};
 use crate::endings::{Line, end_unread, refuse, refuse_line, write};
-use crate::library::defined_count;
 use crate::state::State;
 use crate::text::loaded_text;
-use ios_config::{ConfigFault, Router, read_config};
+use ios_config::{ConfigFault, Router};
 use ios_lex::Word;
 use mg_outside::{Files, Sink};
 use std::alloc::Global;
@@ -44,20 +45,20 @@ pub fn load<F: Files, S: Sink>(
         Ok(bytes) => bytes,
         Err(fault) => return Err(end_unread(alloc, file, fault, out)),
     };
-    match read_config(alloc, bytes.as_slice()) {
+    match state.read_router(alloc, bytes.as_slice()) {
         Ok(router) => add_router(alloc, name, router, state, out),
         Err(ConfigFault::At { line, reason }) => Err(refuse(
             alloc,
             file,
             line,
-            Reason::of(reason),
+            Reason::of_ios(reason),
             out,
         )),
         Err(ConfigFault::NoMemory) => Err(Cause::NoMemory),
     }
 }
 
-/// Adds a router that was read, and says so.
+/// Adds a router that was read, whose names are known, and says so.
 fn add_router<S: Sink>(
     alloc: Global,
     name: &str,
@@ -65,14 +66,13 @@ fn add_router<S: Sink>(
     state: &mut State,
     out: &mut S,
 ) -> Result<(), Cause>
-    ensures added { OnOk result (state.new ≡ with_router state.old name.now router) }
+    ensures added { OnOk result (state.new ≡ adding state.old name.now router) }
     ensures written { OnOk result
         (HasWritten (S.log out.old) (S.log out.new) (router_line name.now router ∷ []) false) }
     ensures cut { IfErr result
         (CutsOrWants (S.log out.old) (S.log out.new) (router_line name.now router)) }
 {
-    let lists = defined_count(router.lists.as_slice());
-    let Ok(text) = loaded_text(alloc, name, lists, router.ignored) else {
+    let Ok(text) = loaded_text(alloc, name, counts_of(&router)) else {
         return Err(Cause::NoMemory);
     };
     let Ok(word) = Word::of(alloc, name.as_bytes()) else {

@@ -1,22 +1,26 @@
-ghost use Rattle.std.specs.Prelude.{◌≡◌, Some, IfOk, IfSome, OnOk};
+ghost use Rattle.std.specs.Prelude.{◌≡◌, Some, IfOk, IfErr, IfSome, OnOk, OnErr};
 ghost use Rattle.std.specs.List.{AllByRecursion};
 ghost use Rattle.std.specs.Option.{option_and_then, option_map};
 ghost use Rattle.ios_acl.specs.List.{AccessList};
 ghost use Rattle.frame.specs.Question.{asked, IsOfPacket};
-ghost use Rattle.session.specs.Kept.{IsPlace, list_at};
+ghost use Rattle.ios_config.specs.Faults.{IsFault};
+ghost use Rattle.ios_config.specs.Reading.{Reads};
+ghost use Rattle.session.specs.Kept.{IsPlace, adding, knowing, list_at, posed};
 ghost use Rattle.session.specs.Library.{is_taken, list_at_path, list_of};
 ghost use Rattle.session.specs.Policies as specs;
 ghost use Rattle.session.specs.Run.{no_routers};
-ghost use Rattle.session.specs.Steps.{asking, with_router};
+ghost use Rattle.session.specs.Steps.{asking};
 
 use crate::ended::Reason;
+use crate::known_names::KnownNames;
 use crate::library::{Loaded, is_router};
 use crate::locate::{Place, list_at, list_at_path, place_of};
 use crate::policies::explore_fault;
 use frame::Test;
 use ios_acl::{Acl, Entry, Verdict};
-use ios_config::Router;
+use ios_config::{ConfigFault, Router, read_config};
 use ios_lex::Word;
+use ios_names::NameTable;
 use query_lang::Explore;
 use sorted_logic::Text;
 use std::alloc::{AllocError, Global};
@@ -28,20 +32,26 @@ pub struct Kept {
     place: Place,
     verdict: Verdict,
     tests: Vec<Test>,
+    /// How many names of interfaces were known.
+    known: u64,
 }
 
-/// A question: which requests these entries decide so, and which pass the tests.
+/// A question: which requests these entries decide so, and which pass the tests; with the names of interfaces that were
+/// known when it was asked.
 #[derive(Drop)]
 pub struct Question<'a> {
     pub entries: &'a [Entry],
     pub verdict: Verdict,
     pub tests: &'a [Test],
+    pub names: KnownNames<'a>,
 }
 
 /// What a run knows between two statements.
 #[derive(Drop)]
 pub struct State {
     library: Vec<Loaded>,
+    /// The names of the interfaces of all routers that were loaded.
+    names: NameTable,
     kept: Option<Kept>,
 }
 
@@ -53,10 +63,11 @@ impl Model for State {
 
     ghost view = { λ s. record {
       library = s.library.items;
-      question = question_at s.library.items s.kept;
+      names = s.names;
+      question = question_at s.library.items s.names s.kept;
     } };
 
-    ghost invariant = { λ s. IsKept s.library.items s.kept };
+    ghost invariant = { λ s. IsKept s.library.items s.names s.kept };
 }
 
 impl State {
@@ -66,6 +77,7 @@ impl State {
     {
         State {
             library: Vec::new(alloc),
+            names: NameTable::new(alloc),
             kept: None,
         }
     }
@@ -77,9 +89,26 @@ impl State {
         name == "net" || is_router(self.library.as_slice(), name)
     }
 
-    /// Adds a router behind those loaded before.
+    /// The names of the interfaces of all routers that were loaded, each at its number.
+    pub fn names(&self) -> &NameTable
+        ensures { result.now ≡ self.now.names }
+    {
+        &self.names
+    }
+
+    /// Reads a configuration, whose names are known from then on.
+    pub fn read_router(&mut self, alloc: Global, bytes: &[u8]) -> Result<Router, ConfigFault>
+        ensures read { IfOk result (Reads self.old.names bytes.now) }
+        ensures names { IfOk result (λ router. self.new ≡ knowing self.old router) }
+        ensures refused { IfErr result (IsFault self.old.names bytes.now) }
+        ensures unchanged { OnErr result (self.new ≡ self.old) }
+    {
+        read_config(alloc, bytes, &mut self.names)
+    }
+
+    /// Adds a router, whose names are known, behind those loaded before.
     pub fn load(&mut self, name: Word, router: Router) -> Result<(), AllocError>
-        ensures { OnOk result (self.new ≡ with_router self.old name router) }
+        ensures { OnOk result (self.new ≡ adding self.old name router) }
     {
         self.library.push(Loaded::new(name, router))?;
         Ok(())
@@ -123,17 +152,19 @@ impl State {
         ensures { (list : AccessList) → list_at self.old.library place ≡ Some list
             → self.new ≡ asking self.old (asked list.entries verdict tests.items) }
     {
+        let known = self.names.len();
         self.kept = Some(Kept {
             place,
             verdict,
             tests,
+            known,
         });
     }
 
     /// The question of the last EXPLORE.
     pub fn question(&self) -> Option<Question<'_>>
-        ensures kept { option_map
-            (λ question. asked question.entries.now question.verdict question.tests.now) result
+        ensures kept { option_map (λ question. posed
+            question.entries.now question.verdict question.tests.now question.names) result
             ≡ self.now.question }
         ensures packet { IfSome result (λ question. AllByRecursion IsOfPacket question.tests.now) }
     {
@@ -142,6 +173,7 @@ impl State {
                 entries: self.list(kept.place).entries(),
                 verdict: kept.verdict,
                 tests: kept.tests.as_slice(),
+                names: KnownNames::of(&self.names, kept.known),
             }),
             None => None,
         }

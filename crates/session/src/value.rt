@@ -1,5 +1,5 @@
 ghost use Rattle.std.specs.Prelude.{◌≡◌};
-ghost use Rattle.session.specs.Value.{is_address};
+ghost use Rattle.session.specs.Value.{is_address, is_interface};
 
 use frame::Pattern;
 use ios_config::Field;
@@ -83,5 +83,27 @@ fn is_address(field: Field) -> bool
         | Field::SportOut
         | Field::DportOut
         | Field::Exit => false,
+    }
+}
+
+/// Whether the values of the field are the numbers of interfaces.
+pub(crate) fn is_interface(field: Field) -> bool
+    ensures { result ≡ is_interface field }
+{
+    match field {
+        Field::Entry | Field::Exit => true,
+        Field::SrcIn
+        | Field::DstIn
+        | Field::SportIn
+        | Field::DportIn
+        | Field::Proto
+        | Field::Flags
+        | Field::IcmpType
+        | Field::IcmpCode
+        | Field::SrcOut
+        | Field::DstOut
+        | Field::SportOut
+        | Field::DportOut
+        | Field::NextHop => false,
     }
 }

@@ -42,12 +42,16 @@ ends (State.want due k) = Outcome.refuses [] reason.Syntax
 abbrev pub settled : Rules → Tokens → ℕ → (State → Outcome) → Moved → Outcome
 settled rules tokens behind go Moved.stops = Outcome.refuses tokens reason.Syntax
 settled rules tokens behind go (Moved.moves state) = go state
-settled rules tokens behind go (Moved.opens level state) = cond (rules.opens level behind) (go state) (Outcome.refuses tokens reason.Depth)
-settled rules tokens behind go (Moved.asks state) = cond rules.asks (go state) (Outcome.refuses tokens reason.NoExplore)
+settled rules tokens behind go (Moved.opens level state) =
+    cond (rules.opens level behind) (go state) (Outcome.refuses tokens reason.Depth)
+settled rules tokens behind go (Moved.asks state) =
+    cond rules.asks (go state) (Outcome.refuses tokens reason.NoExplore)
 
 abbrev pub outcome : Rules → Tokens → State → Outcome
 outcome rules [] state = ends state
-outcome rules (token ∷ tokens) state = settled rules (token ∷ tokens) (length tokens) (outcome rules tokens) (step state token.line token.token)
+outcome rules (token ∷ tokens) state =
+    settled rules (token ∷ tokens) (length tokens) (outcome rules tokens)
+    (step state token.line token.token)
 
 -- at most 64 levels, and no question before an EXPLORE
 abbrev pub strict : Rules

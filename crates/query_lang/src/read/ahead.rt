@@ -1,6 +1,6 @@
 ghost use Rattle.std.specs.Prelude.{◌≡◌, ℕ, List, ◌+◌, ◌<◌, ◌≤◌, IfOk, IfErr, IfSome, IfNone, IsTrue, length, drop, [], ◌∷◌, true, false};
 ghost use Rattle.query_lang.specs.Machine.Due.{Due, State};
-ghost use Rattle.query_lang.specs.Machine.Going.{Found, Stopped, IsLater, Goes, GoesNumber, HaltsNumber, Starts, NoWord, NoSign, NoKeyword};
+ghost use Rattle.query_lang.specs.Machine.Going.{Found, FoundNumber, Stopped, StoppedNumber, IsLater, GoesTo, StartsAt, NoWord, NoSign, NoKeyword};
 ghost use Rattle.query_tokens.specs.declared.token.Token.TheVariants as token;
 ghost use Rattle.query_lang.specs.Words.{is_number};
 ghost use Rattle.query_lang.specs.Words as specs;
@@ -13,7 +13,8 @@ use std::alloc::Global;
 
 /// The token at a place.
 pub fn placed_at(tokens: &[Placed], at: usize) -> Option<&Placed>
-    ensures some { IfSome result (λ found. drop at tokens.now ≡ found.now ∷ drop (at + 1) tokens.now) }
+    ensures some { IfSome result
+        (λ found. drop at tokens.now ≡ found.now ∷ drop (at + 1) tokens.now) }
     ensures inside { IfSome result (λ found. at < length tokens.now) }
     ensures none { IfNone result (drop at tokens.now ≡ []) }
 {
@@ -23,7 +24,7 @@ pub fn placed_at(tokens: &[Placed], at: usize) -> Option<&Placed>
 /// The place behind the keyword, if it stands there.
 #[tactic(auto, using(crate::proofs::Ahead::word_starts, crate::proofs::Ahead::no_word, crate::proofs::Ahead::other_word, crate::proofs::Ahead::word_at_end))]
 pub fn past_word(tokens: &[Placed], at: usize, word: Keyword) -> Option<usize>
-    ensures some { IfSome result (λ next. Starts (token.Keyword word) (drop at tokens.now) (drop next tokens.now)) }
+    ensures some { IfSome result (StartsAt (token.Keyword word) tokens.now at) }
     ensures next { IfSome result (λ next. (at < next) × (next ≤ length tokens.now)) }
     ensures none { IfNone result (NoWord word (drop at tokens.now)) }
 {
@@ -39,7 +40,7 @@ pub fn past_word(tokens: &[Placed], at: usize, word: Keyword) -> Option<usize>
 /// The keyword that stands there, and the place behind it.
 #[tactic(auto, using(crate::proofs::Ahead::word_here, crate::proofs::Ahead::no_keyword_here, crate::proofs::Ahead::no_keyword_at_end))]
 pub fn any_word(tokens: &[Placed], at: usize) -> Option<(Keyword, usize)>
-    ensures some { IfSome result (λ found. Starts (token.Keyword found.0) (drop at tokens.now) (drop found.1 tokens.now)) }
+    ensures some { IfSome result (λ found. StartsAt (token.Keyword found.0) tokens.now at found.1) }
     ensures next { IfSome result (λ found. (at < found.1) × (found.1 ≤ length tokens.now)) }
     ensures none { IfNone result (NoKeyword (drop at tokens.now)) }
 {
@@ -55,7 +56,7 @@ pub fn any_word(tokens: &[Placed], at: usize) -> Option<(Keyword, usize)>
 /// The place behind the sign, if it stands there.
 #[tactic(auto, using(crate::proofs::Ahead::sign_starts, crate::proofs::Ahead::no_sign, crate::proofs::Ahead::other_sign, crate::proofs::Ahead::sign_at_end))]
 pub fn past_sign(tokens: &[Placed], at: usize, sign: Sign) -> Option<usize>
-    ensures some { IfSome result (λ next. Starts (token.Sign sign) (drop at tokens.now) (drop next tokens.now)) }
+    ensures some { IfSome result (StartsAt (token.Sign sign) tokens.now at) }
     ensures next { IfSome result (λ next. (at < next) × (next ≤ length tokens.now)) }
     ensures none { IfNone result (NoSign sign (drop at tokens.now)) }
 {
@@ -71,7 +72,7 @@ pub fn past_sign(tokens: &[Placed], at: usize, sign: Sign) -> Option<usize>
 /// The place behind this keyword.
 #[tactic(auto, using(crate::proofs::Ahead::word_read, crate::proofs::Ahead::word_stops))]
 pub fn word(tokens: &[Placed], at: usize, word: Keyword) -> Result<usize, Stop>
-    ensures read { IfOk result (λ next. Goes Unit (State.want (Due.word word)) tt (drop at tokens.now) (drop next tokens.now)) }
+    ensures read { IfOk result (GoesTo (State.want (Due.word word)) tokens.now at) }
     ensures next { IfOk result (λ next. (at < next) × (next ≤ length tokens.now)) }
     ensures refused { IfErr result (Stopped Unit (State.want (Due.word word)) tokens.now at) }
 {
@@ -84,7 +85,7 @@ pub fn word(tokens: &[Placed], at: usize, word: Keyword) -> Result<usize, Stop>
 /// The place behind this sign.
 #[tactic(auto, using(crate::proofs::Ahead::sign_read, crate::proofs::Ahead::sign_stops))]
 pub fn sign(tokens: &[Placed], at: usize, sign: Sign) -> Result<usize, Stop>
-    ensures read { IfOk result (λ next. Goes Unit (State.want (Due.sign sign)) tt (drop at tokens.now) (drop next tokens.now)) }
+    ensures read { IfOk result (GoesTo (State.want (Due.sign sign)) tokens.now at) }
     ensures next { IfOk result (λ next. (at < next) × (next ≤ length tokens.now)) }
     ensures refused { IfErr result (Stopped Unit (State.want (Due.sign sign)) tokens.now at) }
 {
@@ -145,7 +146,8 @@ pub fn component(alloc: Global, tokens: &[Placed], at: usize) -> Result<(Text, u
 /// The number of a text from `low` to `high`.
 #[tactic(auto, using(crate::proofs::Numerals::within, crate::proofs::Numerals::beyond, crate::proofs::Numerals::no_number))]
 pub fn number_within(text: &Text, low: u64, high: u64) -> Option<u64>
-    ensures some { IfSome result (λ n. (is_number low high text.now ≡ true) × (n ≡ specs.number text.now)) }
+    ensures some { IfSome result
+        (λ n. (is_number low high text.now ≡ true) × (n ≡ specs.number text.now)) }
     ensures bounds { IfSome result (λ n. (low ≤ n) × (n ≤ high)) }
     ensures none { IfNone result (is_number low high text.now ≡ false) }
 {
@@ -169,10 +171,10 @@ pub fn number_between(
     low: u64,
     high: u64,
 ) -> Result<(u64, usize), Stop>
-    ensures read { IfOk result (λ found. GoesNumber low high found.0 (drop at tokens.now) (drop found.1 tokens.now)) }
+    ensures read { IfOk result (FoundNumber low high tokens.now at) }
     ensures next { IfOk result (IsLater tokens.now at) }
     ensures within { IfOk result (λ found. (low ≤ found.0) × (found.0 ≤ high)) }
-    ensures refused { IfErr result (λ stop. HaltsNumber low high (drop at tokens.now) tokens.now stop) }
+    ensures refused { IfErr result (StoppedNumber low high tokens.now at) }
 {
     match placed_at(tokens, at) {
         Some(placed) => match &placed.token {

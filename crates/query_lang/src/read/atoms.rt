@@ -1,6 +1,6 @@
 ghost use Rattle.std.specs.Prelude.{◌≡◌, ℕ, List, ◌+◌, ◌<◌, ◌≤◌, ◌*◌, IfOk, IfErr, length, drop, [], ◌∷◌};
 ghost use Rattle.query_lang.specs.Machine.Due.{Due, State};
-ghost use Rattle.query_lang.specs.Machine.Going.{Found, Stopped, IsLater, IsNoEarlier, Starts};
+ghost use Rattle.query_lang.specs.Machine.Going.{Found, Stopped, IsLater, IsNoEarlier, StartsAt};
 ghost use Rattle.query_tokens.specs.declared.token.Token.TheVariants as token;
 ghost use Rattle.query_lang.specs.Machine.Steps as steps;
 ghost use Rattle.query_lang.specs.Formulas.{tested};
@@ -97,9 +97,11 @@ fn called_atom(
     args: Items<Arg>,
 ) -> Result<(Named, usize), Stop>
     requires { at ≤ length tokens.now }
-    ensures read { IfOk result (Found Named (State.want (Due.holds_tail level text args)) tokens.now at) }
+    ensures read { IfOk result
+        (Found Named (State.want (Due.holds_tail level text args)) tokens.now at) }
     ensures next { IfOk result (IsNoEarlier tokens.now at) }
-    ensures refused { IfErr result (Stopped Named (State.want (Due.holds_tail level text args)) tokens.now at) }
+    ensures refused { IfErr result
+        (Stopped Named (State.want (Due.holds_tail level text args)) tokens.now at) }
 {
     if let Some(behind) = past_sign(tokens, at, Sign::Equals) {
         let left = NamedTerm::Call { name: text, args };
@@ -146,7 +148,7 @@ fn calling(
     level: u64,
     text: Text,
 ) -> Result<(Named, usize), Stop>
-    requires opens { Starts (token.Sign Sign.Open) (drop at tokens.now) (drop behind tokens.now) }
+    requires opens { StartsAt (token.Sign Sign.Open) tokens.now at behind }
     requires next { at < behind }
     requires within { behind ≤ length tokens.now }
     ensures read { IfOk result (Found Named (steps.calling level text) tokens.now at) }
@@ -170,7 +172,8 @@ pub fn atom_tail(
     requires { at ≤ length tokens.now }
     ensures read { IfOk result (Found Named (State.want (Due.atom_tail level text)) tokens.now at) }
     ensures next { IfOk result (IsLater tokens.now at) }
-    ensures refused { IfErr result (Stopped Named (State.want (Due.atom_tail level text)) tokens.now at) }
+    ensures refused { IfErr result
+        (Stopped Named (State.want (Due.atom_tail level text)) tokens.now at) }
 {
     if let Some(_) = past_sign(tokens, at, Sign::Dot) {
         let (value, end) = pathed(alloc, tokens, at, level, text)?;

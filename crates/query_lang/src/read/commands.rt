@@ -1,6 +1,6 @@
 ghost use Rattle.std.specs.Prelude.{◌≡◌, ℕ, List, ◌+◌, ◌<◌, ◌≤◌, ◌*◌, IfOk, IfErr, length, drop, [], ◌∷◌};
 ghost use Rattle.query_lang.specs.Machine.Due.{Due, State};
-ghost use Rattle.query_lang.specs.Machine.Going.{Found, Stopped, IsLater, IsNoEarlier, Starts};
+ghost use Rattle.query_lang.specs.Machine.Going.{Found, Stopped, IsLater, IsNoEarlier, StartsAt};
 ghost use Rattle.query_tokens.specs.declared.token.Token.TheVariants as token;
 ghost use Rattle.query_lang.specs.Machine.Steps as steps;
 ghost use Rattle.query_lang.specs.Statements as specs;
@@ -39,7 +39,7 @@ fn load_word(
     behind: usize,
     word: Keyword,
 ) -> Result<(Kind, usize), Stop>
-    requires starts { Starts (token.Keyword word) (drop at tokens.now) (drop behind tokens.now) }
+    requires starts { StartsAt (token.Keyword word) tokens.now at behind }
     requires next { at < behind }
     requires within { behind ≤ length tokens.now }
     ensures read { IfOk result (Found Kind (State.want Due.load) tokens.now at) }
@@ -75,10 +75,7 @@ pub fn load(alloc: Global, tokens: &[Placed], at: usize) -> Result<(Kind, usize)
     ensures refused { IfErr result (Stopped Kind (State.want Due.load) tokens.now at) }
 {
     match any_word(tokens, at) {
-        Some((word, behind)) => {
-            let (kind, end) = load_word(alloc, tokens, at, behind, word)?;
-            Ok((kind, end))
-        }
+        Some((word, behind)) => load_word(alloc, tokens, at, behind, word),
         None => Err(Stop::Refused(at, ScriptReason::Syntax)),
     }
 }
@@ -91,7 +88,7 @@ fn show_word(
     behind: usize,
     word: Keyword,
 ) -> Result<(Kind, usize), Stop>
-    requires starts { Starts (token.Keyword word) (drop at tokens.now) (drop behind tokens.now) }
+    requires starts { StartsAt (token.Keyword word) tokens.now at behind }
     requires next { at < behind }
     requires within { behind ≤ length tokens.now }
     ensures read { IfOk result (Found Kind (State.want Due.show) tokens.now at) }
@@ -127,10 +124,7 @@ pub fn show(tokens: &[Placed], at: usize) -> Result<(Kind, usize), Stop>
     ensures refused { IfErr result (Stopped Kind (State.want Due.show) tokens.now at) }
 {
     match any_word(tokens, at) {
-        Some((word, behind)) => {
-            let (kind, end) = show_word(tokens, at, behind, word)?;
-            Ok((kind, end))
-        }
+        Some((word, behind)) => show_word(tokens, at, behind, word),
         None => Err(Stop::Refused(at, ScriptReason::Syntax)),
     }
 }
@@ -168,9 +162,11 @@ fn more_literals(
     first: Literal,
 ) -> Result<(Items<Literal>, usize), Stop>
     requires { at ≤ length tokens.now }
-    ensures read { IfOk result (Found (List Literal) (State.want (Due.more_literals (first ∷ []))) tokens.now at) }
+    ensures read { IfOk result
+        (Found (List Literal) (State.want (Due.more_literals (first ∷ []))) tokens.now at) }
     ensures next { IfOk result (IsLater tokens.now at) }
-    ensures refused { IfErr result (Stopped (List Literal) (State.want (Due.more_literals (first ∷ []))) tokens.now at) }
+    ensures refused { IfErr result
+        (Stopped (List Literal) (State.want (Due.more_literals (first ∷ []))) tokens.now at) }
 {
     let mut parts = Items::new(alloc);
     parts.push(first)?;
@@ -238,9 +234,11 @@ fn two_ends(
     tokens: &[Placed],
     at: usize,
 ) -> Result<(((Text, Text), (Text, Text)), usize), Stop>
-    ensures read { IfOk result (Found ((List ℕ × List ℕ) × (List ℕ × List ℕ)) steps.both_ends tokens.now at) }
+    ensures read { IfOk result
+        (Found ((List ℕ × List ℕ) × (List ℕ × List ℕ)) steps.both_ends tokens.now at) }
     ensures next { IfOk result (IsLater tokens.now at) }
-    ensures refused { IfErr result (Stopped ((List ℕ × List ℕ) × (List ℕ × List ℕ)) steps.both_ends tokens.now at) }
+    ensures refused { IfErr result
+        (Stopped ((List ℕ × List ℕ) × (List ℕ × List ℕ)) steps.both_ends tokens.now at) }
 {
     let (from, next) = interface(alloc, tokens, at)?;
     let next = word(tokens, next, Keyword::To)?;
@@ -332,9 +330,11 @@ fn more_tests(
     first: NamedTest,
 ) -> Result<(Items<NamedTest>, usize), Stop>
     requires { at ≤ length tokens.now }
-    ensures read { IfOk result (Found (List NamedTest) (State.want (Due.more_tests (first ∷ []))) tokens.now at) }
+    ensures read { IfOk result
+        (Found (List NamedTest) (State.want (Due.more_tests (first ∷ []))) tokens.now at) }
     ensures next { IfOk result (IsNoEarlier tokens.now at) }
-    ensures refused { IfErr result (Stopped (List NamedTest) (State.want (Due.more_tests (first ∷ []))) tokens.now at) }
+    ensures refused { IfErr result
+        (Stopped (List NamedTest) (State.want (Due.more_tests (first ∷ []))) tokens.now at) }
 {
     let mut parts = Items::new(alloc);
     parts.push(first)?;

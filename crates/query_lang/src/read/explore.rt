@@ -8,24 +8,12 @@ use crate::read::ahead::{name, past_sign, past_word, sign};
 use crate::read::atoms::atom;
 use crate::read::formulas::equivalence;
 use crate::read::stop::Stop;
+use crate::read::variables::variable;
 use crate::script::Explore;
 use query_tokens::{Keyword, Placed, Sign};
 use sorted_logic::Text;
 use sqlite_items::Items;
 use std::alloc::Global;
-
-/// A declared variable and its sort.
-#[tactic(auto, using(crate::proofs::Explores::variable_read, crate::proofs::Explores::variable_stops0, crate::proofs::Explores::variable_stops1, crate::proofs::Explores::variable_stops2))]
-fn variable(alloc: Global, tokens: &[Placed], at: usize) -> Result<((Text, Text), usize), Stop>
-    ensures read { IfOk result (Found (List ℕ × List ℕ) steps.variable tokens.now at) }
-    ensures next { IfOk result (IsLater tokens.now at) }
-    ensures refused { IfErr result (Stopped (List ℕ × List ℕ) steps.variable tokens.now at) }
-{
-    let (variable, next) = name(alloc, tokens, at)?;
-    let next = sign(tokens, next, Sign::Colon)?;
-    let (sort, end) = name(alloc, tokens, next)?;
-    Ok(((variable, sort), end))
-}
 
 /// The variables behind the first, and the closing bracket.
 #[tactic(auto, using(crate::proofs::Explores::vars_begin, crate::proofs::Explores::vars_more, crate::proofs::Explores::vars_stop0, crate::proofs::Explores::vars_end, crate::proofs::Explores::vars_unended))]
@@ -36,9 +24,11 @@ fn more_variables(
     first: (Text, Text),
 ) -> Result<(Items<(Text, Text)>, usize), Stop>
     requires { at ≤ length tokens.now }
-    ensures read { IfOk result (Found (List (List ℕ × List ℕ)) (State.want (Due.more_vars (first ∷ []))) tokens.now at) }
+    ensures read { IfOk result
+        (Found (List (List ℕ × List ℕ)) (State.want (Due.more_vars (first ∷ []))) tokens.now at) }
     ensures next { IfOk result (IsLater tokens.now at) }
-    ensures refused { IfErr result (Stopped (List (List ℕ × List ℕ)) (State.want (Due.more_vars (first ∷ []))) tokens.now at) }
+    ensures refused { IfErr result
+        (Stopped (List (List ℕ × List ℕ)) (State.want (Due.more_vars (first ∷ []))) tokens.now at) }
 {
     let mut parts = Items::new(alloc);
     parts.push(first)?;
@@ -60,9 +50,11 @@ fn variables(
     at: usize,
 ) -> Result<(Items<(Text, Text)>, usize), Stop>
     requires { at ≤ length tokens.now }
-    ensures read { IfOk result (Found (List (List ℕ × List ℕ)) (State.want Due.vars) tokens.now at) }
+    ensures read { IfOk result
+        (Found (List (List ℕ × List ℕ)) (State.want Due.vars) tokens.now at) }
     ensures next { IfOk result (IsNoEarlier tokens.now at) }
-    ensures refused { IfErr result (Stopped (List (List ℕ × List ℕ)) (State.want Due.vars) tokens.now at) }
+    ensures refused { IfErr result
+        (Stopped (List (List ℕ × List ℕ)) (State.want Due.vars) tokens.now at) }
 {
     if let Some(behind) = past_sign(tokens, at, Sign::OpenBracket) {
         let (first, next) = variable(alloc, tokens, behind)?;
@@ -81,9 +73,11 @@ fn more_names(
     first: Text,
 ) -> Result<(Items<Text>, usize), Stop>
     requires { at ≤ length tokens.now }
-    ensures read { IfOk result (Found (List (List ℕ)) (State.want (Due.more_names (first ∷ []))) tokens.now at) }
+    ensures read { IfOk result
+        (Found (List (List ℕ)) (State.want (Due.more_names (first ∷ []))) tokens.now at) }
     ensures next { IfOk result (IsNoEarlier tokens.now at) }
-    ensures refused { IfErr result (Stopped (List (List ℕ)) (State.want (Due.more_names (first ∷ []))) tokens.now at) }
+    ensures refused { IfErr result
+        (Stopped (List (List ℕ)) (State.want (Due.more_names (first ∷ []))) tokens.now at) }
 {
     let mut parts = Items::new(alloc);
     parts.push(first)?;
@@ -121,9 +115,11 @@ fn more_atoms(
     first: Named,
 ) -> Result<(Items<Named>, usize), Stop>
     requires { at ≤ length tokens.now }
-    ensures read { IfOk result (Found (List Named) (State.want (Due.more_atoms (first ∷ []))) tokens.now at) }
+    ensures read { IfOk result
+        (Found (List Named) (State.want (Due.more_atoms (first ∷ []))) tokens.now at) }
     ensures next { IfOk result (IsNoEarlier tokens.now at) }
-    ensures refused { IfErr result (Stopped (List Named) (State.want (Due.more_atoms (first ∷ []))) tokens.now at) }
+    ensures refused { IfErr result
+        (Stopped (List Named) (State.want (Due.more_atoms (first ∷ []))) tokens.now at) }
 {
     let mut parts = Items::new(alloc);
     parts.push(first)?;
@@ -152,8 +148,26 @@ fn include(alloc: Global, tokens: &[Placed], at: usize) -> Result<(Items<Named>,
     Ok((Items::new(alloc), at))
 }
 
+/// What a question is asked under, and the atoms that are shown beside.
+#[tactic(auto, using(crate::proofs::Explores::shown_read, crate::proofs::Explores::shown_stops0, crate::proofs::Explores::shown_stops1))]
+fn shown(
+    alloc: Global,
+    tokens: &[Placed],
+    at: usize,
+) -> Result<((Items<Text>, Items<Named>), usize), Stop>
+    requires { at ≤ length tokens.now }
+    ensures read { IfOk result (Found (List (List ℕ) × List Named) steps.shown tokens.now at) }
+    ensures next { IfOk result (IsNoEarlier tokens.now at) }
+    ensures refused { IfErr result
+        (Stopped (List (List ℕ) × List Named) steps.shown tokens.now at) }
+{
+    let (names, next) = under(alloc, tokens, at)?;
+    let (atoms, end) = include(alloc, tokens, next)?;
+    Ok(((names, atoms), end))
+}
+
 /// A question behind EXPLORE.
-#[tactic(auto, using(crate::proofs::Explores::explore_read, crate::proofs::Explores::explore_stops0, crate::proofs::Explores::explore_stops1, crate::proofs::Explores::explore_stops2, crate::proofs::Explores::explore_stops3))]
+#[tactic(auto, using(crate::proofs::Explores::explore_read, crate::proofs::Explores::explore_stops0, crate::proofs::Explores::explore_stops1, crate::proofs::Explores::explore_stops2))]
 pub fn explore(alloc: Global, tokens: &[Placed], at: usize) -> Result<(Explore, usize), Stop>
     requires { at ≤ length tokens.now }
     ensures read { IfOk result (Found Explore steps.explore tokens.now at) }
@@ -162,13 +176,20 @@ pub fn explore(alloc: Global, tokens: &[Placed], at: usize) -> Result<(Explore, 
 {
     let (vars, next) = variables(alloc, tokens, at)?;
     let (formula, next) = equivalence(alloc, tokens, next, 0)?;
-    let (names, next) = under(alloc, tokens, next)?;
-    let (atoms, end) = include(alloc, tokens, next)?;
-    let explore = Explore {
-        vars,
-        formula,
-        under: names,
-        include: atoms,
-    };
-    Ok((explore, end))
+    match shown(alloc, tokens, next) {
+        Ok(((under, include), end)) => {
+            let explore = Explore {
+                vars,
+                formula,
+                under,
+                include,
+            };
+            Ok((explore, end))
+        }
+        Err(stop) => {
+            // By a call, since a drop in place is proved kind by kind.
+            drop(formula);
+            Err(stop)
+        }
+    }
 }

@@ -1,16 +1,18 @@
-ghost use Rattle.std.specs.Prelude.{◌≡◌, ℕ, List, ◌+◌, ◌<◌, ◌≤◌, ◌*◌, IfOk, IfErr, length, drop, [], ◌∷◌};
+ghost use Rattle.std.specs.Prelude.{◌≡◌, ℕ, List, ◌+◌, ◌<◌, ◌≤◌, ◌*◌, IfOk, IfErr, length, drop, [], ◌∷◌, true};
 ghost use Rattle.query_lang.specs.Machine.Due.{Due, State};
-ghost use Rattle.query_lang.specs.Machine.Going.{Found, Stopped, IsLater, IsNoEarlier, Starts};
+ghost use Rattle.query_lang.specs.Machine.Going.{Found, Stopped, IsLater, IsNoEarlier, StartsAt};
 ghost use Rattle.query_tokens.specs.declared.token.Token.TheVariants as token;
 ghost use Rattle.query_lang.specs.Machine.Steps as steps;
 ghost use Rattle.query_lang.specs.Formulas as specs;
 
 use crate::formula::Named;
-use crate::read::ahead::{any_word, name, past_sign, past_word, sign};
+use crate::read::ahead::{any_word, past_sign, past_word, sign};
 use crate::read::atoms::atom;
 use crate::read::stop::Stop;
+use crate::read::variables::variable;
 use crate::script::ScriptReason;
 use query_tokens::{Keyword, Placed, Sign};
+use sorted_logic::Text;
 use sqlite_items::{Boxed, Items};
 use std::alloc::Global;
 
@@ -69,7 +71,7 @@ fn negation(
     behind: usize,
     level: u64,
 ) -> Result<(Named, usize), Stop>
-    requires not { Starts (token.Keyword Keyword.Not) (drop at tokens.now) (drop behind tokens.now) }
+    requires not { StartsAt (token.Keyword Keyword.Not) tokens.now at behind }
     requires next { at < behind }
     requires within { behind ≤ length tokens.now }
     ensures read { IfOk result (Found Named (State.want (Due.unary level)) tokens.now at) }
@@ -84,52 +86,29 @@ fn negation(
     Ok((Named::Not(body), end))
 }
 
-/// FORALL, its variable and sort, and its body.
-#[cycle(formula)]
-#[tactic(auto, using(crate::proofs::Formulas::forall_deep, crate::proofs::Formulas::forall_read, crate::proofs::Formulas::forall_stops0, crate::proofs::Formulas::forall_stops1, crate::proofs::Formulas::forall_stops2, crate::proofs::Formulas::forall_stops3))]
-fn forall(
-    alloc: Global,
-    tokens: &[Placed],
-    at: usize,
-    behind: usize,
-    level: u64,
-) -> Result<(Named, usize), Stop>
-    requires quantifier { Starts (token.Keyword Keyword.Forall) (drop at tokens.now) (drop behind tokens.now) }
-    requires next { at < behind }
-    requires within { behind ≤ length tokens.now }
-    ensures read { IfOk result (Found Named (State.want (Due.unary level)) tokens.now at) }
-    ensures next { IfOk result (IsLater tokens.now at) }
-    ensures refused { IfErr result (Stopped Named (State.want (Due.unary level)) tokens.now at) }
+/// The formula of a quantifier, by its word.
+fn quantify(word: Keyword, name: Text, sort: Text, body: Boxed<Named>) -> Named
+    ensures { result ≡ steps.quantify word name sort body }
 {
-    if level >= 64 {
-        return Err(Stop::Refused(at, ScriptReason::Depth));
+    match word {
+        Keyword::Exists => Named::Exists { name, sort, body },
+        _ => Named::Forall { name, sort, body },
     }
-    let (variable, next) = name(alloc, tokens, behind)?;
-    let next = sign(tokens, next, Sign::Colon)?;
-    let (sort, next) = name(alloc, tokens, next)?;
-    let (value, end) = unary(alloc, tokens, next, level + 1)?;
-    let body = Boxed::new(alloc, value)?;
-    Ok((
-        Named::Forall {
-            name: variable,
-            sort,
-            body,
-        },
-        end,
-    ))
 }
 
-/// EXISTS, its variable and sort, and its body.
+/// FORALL or EXISTS, its variable and sort, and its body.
 #[cycle(formula)]
-#[tactic(auto, using(crate::proofs::Formulas::exists_deep, crate::proofs::Formulas::exists_read, crate::proofs::Formulas::exists_stops0, crate::proofs::Formulas::exists_stops1, crate::proofs::Formulas::exists_stops2, crate::proofs::Formulas::exists_stops3))]
-fn exists(
+#[tactic(auto, using(crate::proofs::Formulas::quantified_deep, crate::proofs::Formulas::quantified_read, crate::proofs::Formulas::quantified_stops0, crate::proofs::Formulas::quantified_stops1))]
+fn quantified(
     alloc: Global,
     tokens: &[Placed],
     at: usize,
     behind: usize,
     level: u64,
+    word: Keyword,
 ) -> Result<(Named, usize), Stop>
-    requires quantifier { Starts (token.Keyword Keyword.Exists) (drop at tokens.now) (drop behind tokens.now) }
+    requires quantifier { steps.is_quantifier word ≡ true }
+    requires starts { StartsAt (token.Keyword word) tokens.now at behind }
     requires next { at < behind }
     requires within { behind ≤ length tokens.now }
     ensures read { IfOk result (Found Named (State.want (Due.unary level)) tokens.now at) }
@@ -139,19 +118,10 @@ fn exists(
     if level >= 64 {
         return Err(Stop::Refused(at, ScriptReason::Depth));
     }
-    let (variable, next) = name(alloc, tokens, behind)?;
-    let next = sign(tokens, next, Sign::Colon)?;
-    let (sort, next) = name(alloc, tokens, next)?;
+    let ((name, sort), next) = variable(alloc, tokens, behind)?;
     let (value, end) = unary(alloc, tokens, next, level + 1)?;
     let body = Boxed::new(alloc, value)?;
-    Ok((
-        Named::Exists {
-            name: variable,
-            sort,
-            body,
-        },
-        end,
-    ))
+    Ok((quantify(word, name, sort, body), end))
 }
 
 /// A formula in parentheses.
@@ -164,7 +134,7 @@ fn group(
     behind: usize,
     level: u64,
 ) -> Result<(Named, usize), Stop>
-    requires opens { Starts (token.Sign Sign.Open) (drop at tokens.now) (drop behind tokens.now) }
+    requires opens { StartsAt (token.Sign Sign.Open) tokens.now at behind }
     requires next { at < behind }
     requires within { behind ≤ length tokens.now }
     ensures read { IfOk result (Found Named (State.want (Due.unary level)) tokens.now at) }
@@ -175,8 +145,14 @@ fn group(
         return Err(Stop::Refused(at, ScriptReason::Depth));
     }
     let (value, next) = equivalence(alloc, tokens, behind, level + 1)?;
-    let end = sign(tokens, next, Sign::Close)?;
-    Ok((value, end))
+    match sign(tokens, next, Sign::Close) {
+        Ok(end) => Ok((value, end)),
+        Err(stop) => {
+            // By a call, since a drop in place is proved kind by kind.
+            drop(value);
+            Err(stop)
+        }
+    }
 }
 
 /// What begins with a keyword.
@@ -190,7 +166,7 @@ fn unary_word(
     level: u64,
     word: Keyword,
 ) -> Result<(Named, usize), Stop>
-    requires starts { Starts (token.Keyword word) (drop at tokens.now) (drop behind tokens.now) }
+    requires starts { StartsAt (token.Keyword word) tokens.now at behind }
     requires next { at < behind }
     requires within { behind ≤ length tokens.now }
     ensures read { IfOk result (Found Named (State.want (Due.unary level)) tokens.now at) }
@@ -201,8 +177,8 @@ fn unary_word(
         Keyword::True => Ok((Named::True, behind)),
         Keyword::False => Ok((Named::False, behind)),
         Keyword::Not => negation(alloc, tokens, at, behind, level),
-        Keyword::Forall => forall(alloc, tokens, at, behind, level),
-        Keyword::Exists => exists(alloc, tokens, at, behind, level),
+        Keyword::Forall => quantified(alloc, tokens, at, behind, level, word),
+        Keyword::Exists => quantified(alloc, tokens, at, behind, level, word),
         _ => Err(Stop::Refused(at, ScriptReason::Syntax)),
     }
 }
@@ -216,12 +192,10 @@ fn unary(alloc: Global, tokens: &[Placed], at: usize, level: u64) -> Result<(Nam
     ensures refused { IfErr result (Stopped Named (State.want (Due.unary level)) tokens.now at) }
 {
     if let Some((word, behind)) = any_word(tokens, at) {
-        let (value, end) = unary_word(alloc, tokens, at, behind, level, word)?;
-        return Ok((value, end));
+        return unary_word(alloc, tokens, at, behind, level, word);
     }
     if let Some(behind) = past_sign(tokens, at, Sign::Open) {
-        let (value, end) = group(alloc, tokens, at, behind, level)?;
-        return Ok((value, end));
+        return group(alloc, tokens, at, behind, level);
     }
     let (value, end) = atom(alloc, tokens, at, level)?;
     Ok((value, end))
@@ -238,9 +212,11 @@ fn more_and(
     first: Named,
 ) -> Result<(Named, usize), Stop>
     requires { at ≤ length tokens.now }
-    ensures read { IfOk result (Found Named (State.want (Due.more_and level (first ∷ []))) tokens.now at) }
+    ensures read { IfOk result
+        (Found Named (State.want (Due.more_and level (first ∷ []))) tokens.now at) }
     ensures next { IfOk result (IsNoEarlier tokens.now at) }
-    ensures refused { IfErr result (Stopped Named (State.want (Due.more_and level (first ∷ []))) tokens.now at) }
+    ensures refused { IfErr result
+        (Stopped Named (State.want (Due.more_and level (first ∷ []))) tokens.now at) }
 {
     let mut parts = Items::new(alloc);
     parts.push(first)?;
@@ -282,9 +258,11 @@ fn more_or(
     first: Named,
 ) -> Result<(Named, usize), Stop>
     requires { at ≤ length tokens.now }
-    ensures read { IfOk result (Found Named (State.want (Due.more_or level (first ∷ []))) tokens.now at) }
+    ensures read { IfOk result
+        (Found Named (State.want (Due.more_or level (first ∷ []))) tokens.now at) }
     ensures next { IfOk result (IsNoEarlier tokens.now at) }
-    ensures refused { IfErr result (Stopped Named (State.want (Due.more_or level (first ∷ []))) tokens.now at) }
+    ensures refused { IfErr result
+        (Stopped Named (State.want (Due.more_or level (first ∷ []))) tokens.now at) }
 {
     let mut parts = Items::new(alloc);
     parts.push(first)?;
@@ -328,14 +306,17 @@ fn implied(
     requires { at ≤ length tokens.now }
     ensures read { IfOk result (Found Named (State.want (Due.implies level left)) tokens.now at) }
     ensures next { IfOk result (IsNoEarlier tokens.now at) }
-    ensures refused { IfErr result (Stopped Named (State.want (Due.implies level left)) tokens.now at) }
+    ensures refused { IfErr result
+        (Stopped Named (State.want (Due.implies level left)) tokens.now at) }
 {
     if let Some(behind) = past_word(tokens, at, Keyword::Implies) {
         if level >= 64 {
+            // By a call, since a drop in place is proved kind by kind.
+            drop(left);
             return Err(Stop::Refused(at, ScriptReason::Depth));
         }
-        let (value, end) = implication(alloc, tokens, behind, level + 1)?;
         let before = Boxed::new(alloc, left)?;
+        let (value, end) = implication(alloc, tokens, behind, level + 1)?;
         let right = Boxed::new(alloc, value)?;
         return Ok((Named::Implies(before, right), end));
     }
@@ -371,9 +352,11 @@ fn more_iff(
     first: Named,
 ) -> Result<(Named, usize), Stop>
     requires { at ≤ length tokens.now }
-    ensures read { IfOk result (Found Named (State.want (Due.more_iff level (first ∷ []))) tokens.now at) }
+    ensures read { IfOk result
+        (Found Named (State.want (Due.more_iff level (first ∷ []))) tokens.now at) }
     ensures next { IfOk result (IsNoEarlier tokens.now at) }
-    ensures refused { IfErr result (Stopped Named (State.want (Due.more_iff level (first ∷ []))) tokens.now at) }
+    ensures refused { IfErr result
+        (Stopped Named (State.want (Due.more_iff level (first ∷ []))) tokens.now at) }
 {
     let mut parts = Items::new(alloc);
     parts.push(first)?;

@@ -1,12 +1,12 @@
 ghost use Rattle.std.specs.Prelude.{ℕ, List, ◌+◌, ◌<◌, ◌≤◌, ◌*◌, IfOk, IfErr, length, drop, [], ◌∷◌, ◌≡◌, IfSome, IfNone, true, false, ◌^◌, ◌-◌};
 ghost use Rattle.query_lang.specs.Machine.Due.{Due, State};
-ghost use Rattle.query_lang.specs.Machine.Going.{Found, Stopped, IsLater, Goes, Starts};
+ghost use Rattle.query_lang.specs.Machine.Going.{Found, Stopped, IsLater, StartsAt};
 ghost use Rattle.query_tokens.specs.declared.token.Token.TheVariants as token;
 ghost use Rattle.query_lang.specs.Literals.{NumberTest};
 ghost use Rattle.query_lang.specs.Words.{is_number};
 ghost use Rattle.query_lang.specs.Words as words;
 ghost use Rattle.query_lang.specs.Machine.Steps as steps;
-ghost use Rattle.query_lang.specs.Machine.Tests.{asked, BeginsLiteral, NoLiteral};
+ghost use Rattle.query_lang.specs.Machine.Tests.{FoundTest, BeginsLiteral, NoLiteral};
 
 use crate::literal::Literal;
 use crate::read::ahead::{number_between, number_within, past_sign, past_word, placed_at, sign};
@@ -37,7 +37,8 @@ impl Literal {
 /// The number of a text of digits, where it is below 2^128.
 #[tactic(auto, using(crate::proofs::Numerals::whole, crate::proofs::Numerals::no_whole))]
 fn whole_number(text: &Text) -> Option<u128>
-    ensures some { IfSome result (λ n. (is_number 0 (2 ^ 128 - 1) text.now ≡ true) × (n ≡ words.number text.now)) }
+    ensures some { IfSome result
+        (λ n. (is_number 0 (2 ^ 128 - 1) text.now ≡ true) × (n ≡ words.number text.now)) }
     ensures none { IfNone result (is_number 0 (2 ^ 128 - 1) text.now ≡ false) }
 {
     match number(text) {
@@ -76,7 +77,7 @@ fn three_bytes(tokens: &[Placed], at: usize, first: u64) -> Result<(Literal, usi
 /// A number, or four bytes, from the text of digits that stands first.
 #[tactic(auto, using(crate::proofs::Literals::byte_dotted, crate::proofs::Literals::byte_dotted_stops, crate::proofs::Literals::byte_alone, crate::proofs::Literals::long_number, crate::proofs::Literals::no_number))]
 fn numeral(tokens: &[Placed], at: usize, text: &Text) -> Result<(Literal, usize), Stop>
-    requires digits { Starts (token.Digits text.now) (drop at tokens.now) (drop (at + 1) tokens.now) }
+    requires digits { StartsAt (token.Digits text.now) tokens.now at (at + 1) }
     requires within { at < length tokens.now }
     ensures read { IfOk result (Found Literal (State.want Due.literal) tokens.now at) }
     ensures next { IfOk result (IsLater tokens.now at) }
@@ -132,7 +133,7 @@ fn literal_at(tokens: &[Placed], at: usize) -> Option<usize>
 /// What stands behind IN.
 #[tactic(auto, using(crate::proofs::Literals::test_stops0, crate::proofs::Literals::to_read, crate::proofs::Literals::to_stops, crate::proofs::Literals::masked_read, crate::proofs::Literals::masked_stops, crate::proofs::Literals::alone_read))]
 pub fn number_test(alloc: Global, tokens: &[Placed], at: usize) -> Result<(Asked, usize), Stop>
-    ensures read { IfOk result (λ found. Goes NumberTest steps.number_test (asked found.0) (drop at tokens.now) (drop found.1 tokens.now)) }
+    ensures read { IfOk result (FoundTest tokens.now at) }
     ensures next { IfOk result (IsLater tokens.now at) }
     ensures refused { IfErr result (Stopped NumberTest steps.number_test tokens.now at) }
 {

@@ -22,7 +22,8 @@ pub fn components(
     requires { at ≤ length tokens.now }
     ensures read { IfOk result (Found Path (State.want (Due.components parts)) tokens.now at) }
     ensures next { IfOk result (IsNoEarlier tokens.now at) }
-    ensures refused { IfErr result (Stopped Path (State.want (Due.components parts)) tokens.now at) }
+    ensures refused { IfErr result
+        (Stopped Path (State.want (Due.components parts)) tokens.now at) }
 {
     let mut parts = parts;
     let mut place = at;

@@ -1,6 +1,6 @@
 ghost use Rattle.std.specs.Prelude.{◌≡◌, ℕ, List, ◌+◌, ◌<◌, ◌≤◌, IfOk, IfErr, length, drop, [], ◌∷◌};
 ghost use Rattle.query_tokens.specs.declared.token.Token.TheVariants as token;
-ghost use Rattle.query_lang.specs.Machine.Going.{StartsOn, Begun, Stated, HaltsStatement, HaltsScript, IsFresh, IsRead};
+ghost use Rattle.query_lang.specs.Machine.Going.{StartsOnAt, FoundKind, FoundStatement, StoppedStatement, HaltsScript, IsFresh, IsRead};
 
 use crate::read::ahead::{placed_at, sign};
 use crate::read::commands::{
@@ -22,9 +22,9 @@ fn fresh_line(
     line: u64,
     explored: Option<u64>,
 ) -> Result<(), Stop>
-    requires { StartsOn line (token.Keyword Keyword.Explore) (drop at tokens.now) (drop behind tokens.now) }
+    requires { StartsOnAt line (token.Keyword Keyword.Explore) tokens.now at behind }
     ensures fresh { IfOk result (λ _. IsFresh explored line) }
-    ensures refused { IfErr result (λ stop. HaltsStatement explored (drop at tokens.now) tokens.now stop) }
+    ensures refused { IfErr result (StoppedStatement explored tokens.now at) }
 {
     match explored {
         Some(old) => {
@@ -48,12 +48,12 @@ fn question(
     line: u64,
     explored: Option<u64>,
 ) -> Result<(Kind, Option<u64>, usize), Stop>
-    requires starts { StartsOn line (token.Keyword Keyword.Explore) (drop at tokens.now) (drop behind tokens.now) }
+    requires starts { StartsOnAt line (token.Keyword Keyword.Explore) tokens.now at behind }
     requires next { at < behind }
     requires within { behind ≤ length tokens.now }
-    ensures read { IfOk result (λ found. Begun explored found.1 line found.0 (drop at tokens.now) (drop found.2 tokens.now)) }
+    ensures read { IfOk result (FoundKind explored line tokens.now at) }
     ensures next { IfOk result (λ found. (at < found.2) × (found.2 ≤ length tokens.now)) }
-    ensures refused { IfErr result (λ stop. HaltsStatement explored (drop at tokens.now) tokens.now stop) }
+    ensures refused { IfErr result (StoppedStatement explored tokens.now at) }
 {
     fresh_line(tokens, at, behind, line, explored)?;
     let (what, end) = explore(alloc, tokens, behind)?;
@@ -69,12 +69,12 @@ fn asks_show(
     line: u64,
     explored: Option<u64>,
 ) -> Result<(Kind, Option<u64>, usize), Stop>
-    requires starts { StartsOn line (token.Keyword Keyword.Show) (drop at tokens.now) (drop behind tokens.now) }
+    requires starts { StartsOnAt line (token.Keyword Keyword.Show) tokens.now at behind }
     requires next { at < behind }
     requires within { behind ≤ length tokens.now }
-    ensures read { IfOk result (λ found. Begun explored found.1 line found.0 (drop at tokens.now) (drop found.2 tokens.now)) }
+    ensures read { IfOk result (FoundKind explored line tokens.now at) }
     ensures next { IfOk result (λ found. (at < found.2) × (found.2 ≤ length tokens.now)) }
-    ensures refused { IfErr result (λ stop. HaltsStatement explored (drop at tokens.now) tokens.now stop) }
+    ensures refused { IfErr result (StoppedStatement explored tokens.now at) }
 {
     match explored {
         Some(old) => {
@@ -94,12 +94,12 @@ fn asks_possible(
     line: u64,
     explored: Option<u64>,
 ) -> Result<(Kind, Option<u64>, usize), Stop>
-    requires starts { StartsOn line (token.Keyword Keyword.Is) (drop at tokens.now) (drop behind tokens.now) }
+    requires starts { StartsOnAt line (token.Keyword Keyword.Is) tokens.now at behind }
     requires next { at < behind }
     requires within { behind ≤ length tokens.now }
-    ensures read { IfOk result (λ found. Begun explored found.1 line found.0 (drop at tokens.now) (drop found.2 tokens.now)) }
+    ensures read { IfOk result (FoundKind explored line tokens.now at) }
     ensures next { IfOk result (λ found. (at < found.2) × (found.2 ≤ length tokens.now)) }
-    ensures refused { IfErr result (λ stop. HaltsStatement explored (drop at tokens.now) tokens.now stop) }
+    ensures refused { IfErr result (StoppedStatement explored tokens.now at) }
 {
     match explored {
         Some(old) => {
@@ -121,12 +121,12 @@ fn kind(
     word: Keyword,
     explored: Option<u64>,
 ) -> Result<(Kind, Option<u64>, usize), Stop>
-    requires starts { StartsOn line (token.Keyword word) (drop at tokens.now) (drop behind tokens.now) }
+    requires starts { StartsOnAt line (token.Keyword word) tokens.now at behind }
     requires next { at < behind }
     requires within { behind ≤ length tokens.now }
-    ensures read { IfOk result (λ found. Begun explored found.1 line found.0 (drop at tokens.now) (drop found.2 tokens.now)) }
+    ensures read { IfOk result (FoundKind explored line tokens.now at) }
     ensures next { IfOk result (λ found. (at < found.2) × (found.2 ≤ length tokens.now)) }
-    ensures refused { IfErr result (λ stop. HaltsStatement explored (drop at tokens.now) tokens.now stop) }
+    ensures refused { IfErr result (StoppedStatement explored tokens.now at) }
 {
     match word {
         Keyword::Explore => question(alloc, tokens, at, behind, line, explored),
@@ -177,17 +177,23 @@ fn statement(
     explored: Option<u64>,
 ) -> Result<(Statement, Option<u64>, usize), Stop>
     requires { at < length tokens.now }
-    ensures read { IfOk result (λ found. Stated explored found.1 found.0 (drop at tokens.now) (drop found.2 tokens.now)) }
+    ensures read { IfOk result (FoundStatement explored tokens.now at) }
     ensures next { IfOk result (λ found. (at < found.2) × (found.2 ≤ length tokens.now)) }
-    ensures refused { IfErr result (λ stop. HaltsStatement explored (drop at tokens.now) tokens.now stop) }
+    ensures refused { IfErr result (StoppedStatement explored tokens.now at) }
 {
     match placed_at(tokens, at) {
         Some(placed) => match &placed.token {
             Token::Keyword(word) => {
                 let line = placed.line;
                 let (what, latest, next) = kind(alloc, tokens, at, at + 1, line, *word, explored)?;
-                let end = sign(tokens, next, Sign::Semicolon)?;
-                Ok((Statement { line, kind: what }, latest, end))
+                match sign(tokens, next, Sign::Semicolon) {
+                    Ok(end) => Ok((Statement { line, kind: what }, latest, end)),
+                    Err(stop) => {
+                        // By a call, since a drop in place is proved kind by kind.
+                        drop(what);
+                        Err(stop)
+                    }
+                }
             }
             _ => Err(Stop::Refused(at, ScriptReason::Syntax)),
         },

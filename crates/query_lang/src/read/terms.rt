@@ -1,6 +1,6 @@
 ghost use Rattle.std.specs.Prelude.{◌≡◌, ℕ, List, ◌+◌, ◌<◌, ◌≤◌, ◌*◌, IfOk, IfErr, length, drop, [], ◌∷◌};
 ghost use Rattle.query_lang.specs.Machine.Due.{Due, State};
-ghost use Rattle.query_lang.specs.Machine.Going.{Found, Stopped, IsLater, IsNoEarlier, Starts};
+ghost use Rattle.query_lang.specs.Machine.Going.{Found, Stopped, IsLater, IsNoEarlier, StartsAt};
 ghost use Rattle.query_tokens.specs.declared.token.Token.TheVariants as token;
 ghost use Rattle.query_lang.specs.Machine.Steps as steps;
 
@@ -24,9 +24,11 @@ fn called(
     text: Text,
 ) -> Result<(NamedTerm, usize), Stop>
     requires { at ≤ length tokens.now }
-    ensures read { IfOk result (Found NamedTerm (State.want (Due.called level text)) tokens.now at) }
+    ensures read { IfOk result
+        (Found NamedTerm (State.want (Due.called level text)) tokens.now at) }
     ensures next { IfOk result (IsNoEarlier tokens.now at) }
-    ensures refused { IfErr result (Stopped NamedTerm (State.want (Due.called level text)) tokens.now at) }
+    ensures refused { IfErr result
+        (Stopped NamedTerm (State.want (Due.called level text)) tokens.now at) }
 {
     if let Some(behind) = past_sign(tokens, at, Sign::Open) {
         let (args, end) = arguments(alloc, tokens, at, behind, level)?;
@@ -63,12 +65,13 @@ pub fn arguments(
     behind: usize,
     level: u64,
 ) -> Result<(Items<Arg>, usize), Stop>
-    requires opens { Starts (token.Sign Sign.Open) (drop at tokens.now) (drop behind tokens.now) }
+    requires opens { StartsAt (token.Sign Sign.Open) tokens.now at behind }
     requires next { at < behind }
     requires within { behind ≤ length tokens.now }
     ensures read { IfOk result (Found (List Arg) (State.want (Due.args level)) tokens.now at) }
     ensures next { IfOk result (IsLater tokens.now at) }
-    ensures refused { IfErr result (Stopped (List Arg) (State.want (Due.args level)) tokens.now at) }
+    ensures refused { IfErr result
+        (Stopped (List Arg) (State.want (Due.args level)) tokens.now at) }
 {
     if level >= 64 {
         return Err(Stop::Refused(at, ScriptReason::Depth));
@@ -107,9 +110,11 @@ fn more_arguments(
     first: Arg,
 ) -> Result<(Items<Arg>, usize), Stop>
     requires { at ≤ length tokens.now }
-    ensures read { IfOk result (Found (List Arg) (State.want (Due.more_args level (first ∷ []))) tokens.now at) }
+    ensures read { IfOk result
+        (Found (List Arg) (State.want (Due.more_args level (first ∷ []))) tokens.now at) }
     ensures next { IfOk result (IsLater tokens.now at) }
-    ensures refused { IfErr result (Stopped (List Arg) (State.want (Due.more_args level (first ∷ []))) tokens.now at) }
+    ensures refused { IfErr result
+        (Stopped (List Arg) (State.want (Due.more_args level (first ∷ []))) tokens.now at) }
 {
     let mut parts = Items::new(alloc);
     parts.push(first)?;

@@ -3,7 +3,9 @@ use Rattle.std.specs.Str.{bytes_eq}
 use Rattle.std.proofs.lemmas.List.{nil_from_length}
 use Rattle.std.proofs.lemmas.Result.{err_from_is_err_and}
 use Rattle.ios_lex.specs.Address.{IsAddress}
+use Rattle.ios_lex.specs.NextWords.{SomeAddress}
 use Rattle.ios_lex.proofs.FirstStops.{lacks_none, lacks_word, begins_with_text}
+use Rattle.ios_lex.proofs.Stopping.{stop_in_any_names}
 use Rattle.ios_lex.proofs.WordForms.{words_differ}
 use Rattle.ios_acl.specs.Parts.{SomePlace}
 use Rattle.ios_acl.proofs.PlaceForms.{any_read, host_read, some_read, place_stop, host_stop, some_stop, no_place_begins}
@@ -26,7 +28,7 @@ returns-in_err-host-clause-stop c =
     rw (p.1, p.2)
     (host_stop c.args.words.now c.in-Some.rest.now c.in_err-host.field-0.0
     (begins_with_text c.args.words.now c.in-Some.rest.now c.in-Some.first.now (codes "host") c.in-Some.ensures.cases.0 test)
-    c.in_err-host.ensures.stop)
+    (stop_in_any_names SomeAddress c.in-Some.rest.now c.in_err-host.field-0.0 c.in_err-host.ensures.part c.in_err-host.ensures.stop))
 
 pub returns-then-is-2-clause-read : goal.returns-then-is-2-clause-read
 returns-then-is-2-clause-read c =
@@ -50,7 +52,7 @@ returns-in_err-wildcard-clause-stop c =
     let p = err_from_is_err_and c.from_residual-in_err-wildcard.result c.from_residual-in_err-wildcard.ensures.1 in
     rw (p.1, p.2)
     (some_stop c.args.words.now c.in-Some.rest.now c.in-Some.first.now c.in-Some-address.some c.in_err-wildcard.field-0.0 c.in-Some.ensures.cases.0 address
-    c.in_err-wildcard.ensures.stop)
+    (stop_in_any_names SomeAddress c.in-Some.rest.now c.in_err-wildcard.field-0.0 c.in_err-wildcard.ensures.part c.in_err-wildcard.ensures.stop))
 
 pub returns-clause-read : goal.returns-clause-read
 returns-clause-read c =

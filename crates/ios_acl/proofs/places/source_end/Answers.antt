@@ -3,7 +3,9 @@ use Rattle.std.specs.Str.{bytes_eq}
 use Rattle.std.proofs.lemmas.List.{nil_from_length}
 use Rattle.std.proofs.lemmas.Result.{err_from_is_err_and}
 use Rattle.ios_lex.specs.Address.{IsAddress}
+use Rattle.ios_lex.specs.NextWords.{SomeAddress}
 use Rattle.ios_lex.proofs.FirstStops.{begins_with_text, lacks_none, lacks_word}
+use Rattle.ios_lex.proofs.Stopping.{stop_in_any_names}
 use Rattle.ios_lex.proofs.WordForms.{words_differ}
 use Rattle.ios_acl.specs.Parts.{SomeSourceEnd}
 use Rattle.ios_acl.proofs.SourceForms.{source_any, source_host, source_address, no_source_begins, source_stop, source_any_stop, source_host_stop, source_host_end_stop, source_address_stop}
@@ -37,7 +39,7 @@ returns-in_err-host-clause-stop c =
     rw (p.1, p.2)
     (source_host_stop c.args.words.now c.in-Some.rest.now c.in_err-host.field-0.0
     (begins_with_text c.args.words.now c.in-Some.rest.now c.in-Some.first.now (codes "host") c.in-Some.ensures.cases.0 test)
-    c.in_err-host.ensures.part c.in_err-host.ensures.stop)
+    c.in_err-host.ensures.part (stop_in_any_names SomeAddress c.in-Some.rest.now c.in_err-host.field-0.0 c.in_err-host.ensures.part c.in_err-host.ensures.stop))
 
 pub returns-in_err-end-2-clause-stop : goal.returns-in_err-end-2-clause-stop
 returns-in_err-end-2-clause-stop c =

@@ -5,7 +5,7 @@ use Rattle.ios_lex.proofs.FirstStops.{begins_with_text, lacks_none, lacks_word}
 use Rattle.ios_lex.proofs.WordForms.{words_differ}
 use Rattle.ios_acl.specs.Reading.{Sentence}
 use Rattle.ios_acl.specs.Stops.{IsStop}
-use Rattle.ios_acl.proofs.Sentences.{extended_read, no_sentence_begins, remark_read, sentence_stop, standard_read, stop_in_extended, stop_in_standard}
+use Rattle.ios_acl.proofs.Sentences.{extended_read, no_sentence_begins, remark_read, sentence_stop, standard_read, stop_behind_verdict}
 use Rattle.ios_acl.proofs.spelled.sentence.Goals as goal
 
 pub returns-in_default-clause-stop : goal.returns-in_default-clause-stop
@@ -29,14 +29,14 @@ returns-in_default-verdict_of-clause-stop c =
 pub returns-in_err-entry-clause-stop : goal.returns-in_err-entry-clause-stop
 returns-in_err-entry-clause-stop c =
     let stop : IsStop (Sentence true) c.args.words.now c.in_err-entry.field-0.0 =
-    stop_in_extended c.in-Some-verdict_of.verdict c.args.words.now c.in-Some.rest.now c.in-Some.first.now c.in_err-entry.field-0.0 c.in-Some.ensures.cases.0
+    stop_behind_verdict true c.in-Some-verdict_of.verdict c.args.words.now c.in-Some.rest.now c.in-Some.first.now c.in_err-entry.field-0.0 c.in-Some.ensures.cases.0
     c.in-Some-verdict_of.ensures.found c.in_err-entry.ensures.stop in
     rw c.if-extended.true (search rules)
 
 pub returns-in_err-entry-2-clause-stop : goal.returns-in_err-entry-2-clause-stop
 returns-in_err-entry-2-clause-stop c =
     let stop : IsStop (Sentence false) c.args.words.now c.in_err-entry-2.field-0.0 =
-    stop_in_standard c.in-Some-verdict_of.verdict c.args.words.now c.in-Some.rest.now c.in-Some.first.now c.in_err-entry-2.field-0.0 c.in-Some.ensures.cases.0
+    stop_behind_verdict false c.in-Some-verdict_of.verdict c.args.words.now c.in-Some.rest.now c.in-Some.first.now c.in_err-entry-2.field-0.0 c.in-Some.ensures.cases.0
     c.in-Some-verdict_of.ensures.found c.in_err-entry-2.ensures.stop in
     rw c.if-extended.false (search rules)
 

@@ -19,9 +19,9 @@ returns-in_err-direction-clause-stop c =
     c.in_err-direction.ensures.stop in
     search rules
 
-pub returns-in_err-end-clause-stop : goal.returns-in_err-end-clause-stop
-returns-in_err-end-clause-stop c =
-    let stop : IsStop NoName (Line kinds.AccessGroup) c.args.words.now c.in_err-end.field-0.0 =
-    stop_behind_list c.in_ok-name.name.now c.args.words.now c.in_ok-name.rest.now c.in_err-end.field-0.0 c.in_ok-name.ensures.read
-    (stop_behind_direction c.in_ok-direction.direction c.in_ok-name.rest.now c.in_ok-direction.rest.now c.in_err-end.field-0.0 c.in_ok-direction.ensures.read c.in_err-end.ensures.stop) in
+pub returns-in_err-next_end-clause-stop : goal.returns-in_err-next_end-clause-stop
+returns-in_err-next_end-clause-stop c =
+    let stop : IsStop NoName (Line kinds.AccessGroup) c.args.words.now c.in_err-next_end.field-0.0 =
+    stop_behind_list c.in_ok-name.name.now c.args.words.now c.in_ok-name.rest.now c.in_err-next_end.field-0.0 c.in_ok-name.ensures.read
+    (stop_behind_direction c.in_ok-direction.direction c.in_ok-name.rest.now c.in_ok-direction.rest.now c.in_err-next_end.field-0.0 c.in_ok-direction.ensures.read c.in_err-next_end.ensures.stop) in
     search rules

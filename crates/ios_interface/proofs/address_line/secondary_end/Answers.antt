@@ -13,9 +13,9 @@ returns-then-not-is-clause-stop c =
     let test : bytes_eq c.in-Some.first.now (codes "secondary") ≡ false = search rules in
     no_secondary_stop c.args.words.now c.in-Some.rest.now c.in-Some.first.now c.stop_before.result c.in-Some.ensures.cases.0 c.stop_before.ensures.left c.stop_before.ensures.due (words_differ c.in-Some.first.now (codes "secondary") test)
 
-pub returns-in_err-end-clause-stop : goal.returns-in_err-end-clause-stop
-returns-in_err-end-clause-stop c =
+pub returns-in_err-next_end-clause-stop : goal.returns-in_err-next_end-clause-stop
+returns-in_err-next_end-clause-stop c =
     let test : bytes_eq c.in-Some.first.now (codes "secondary") ≡ true = search rules in
     let whole = begins_with_text c.args.words.now c.in-Some.rest.now c.in-Some.first.now (codes "secondary") c.in-Some.ensures.cases.0 test in
-    let stop : IsStop NoName SomeSecondary c.args.words.now c.in_err-end.field-0.0 = secondary_stop c.args.words.now c.in-Some.rest.now c.in_err-end.field-0.0 whole c.in_err-end.ensures.stop in
+    let stop : IsStop NoName SomeSecondary c.args.words.now c.in_err-next_end.field-0.0 = secondary_stop c.args.words.now c.in-Some.rest.now c.in_err-next_end.field-0.0 whole c.in_err-next_end.ensures.stop in
     search rules

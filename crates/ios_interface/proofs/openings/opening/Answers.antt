@@ -1,5 +1,5 @@
 use Rattle.ios_interface.specs.Grammar.{opening_words}
-use Rattle.ios_interface.proofs.LineOpenings.{lacks_earlier}
+use Rattle.ios_lex.proofs.LineOpenings.{lacks_earlier}
 use Rattle.ios_interface.proofs.openings.opening.Goals as goal
 
 pub loop-kind-preserved : goal.loop-kind-preserved

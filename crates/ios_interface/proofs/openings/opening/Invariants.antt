@@ -1,7 +1,7 @@
 use Rattle.std.proofs.Common.{drop, map}
 use Rattle.std.specs.List.{AllByRecursion}
 use Rattle.ios_interface.specs.Grammar.{opening_words}
-use Rattle.ios_interface.specs.Parts.{LacksOpening}
+use Rattle.ios_lex.specs.Openings.{LacksOpening}
 use Rattle.ios_interface.proofs.openings.opening.Given as goal
 
 -- none of the kinds so far opens the line

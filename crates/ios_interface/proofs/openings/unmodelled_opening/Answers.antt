@@ -1,7 +1,7 @@
 use Rattle.std.proofs.lemmas.List.Elements.{All-contains, All-from_recursion}
 use Rattle.ios_lex.specs.Phrases.{Words}
 use Rattle.ios_interface.specs.Grammar.{unmodelled_openings}
-use Rattle.ios_interface.specs.Parts.{LacksOpening}
+use Rattle.ios_lex.specs.Openings.{LacksOpening}
 use Rattle.ios_interface.specs.Reading.{IsUnmodelled}
 use Rattle.ios_interface.proofs.openings.unmodelled_opening.Goals as goal
 

@@ -4,7 +4,7 @@ use Rattle.ios_lex.specs.Stops.{IsStop}
 use Rattle.ios_nat.specs.declared.kind.Kind.TheVariants as kinds
 use Rattle.ios_nat.specs.Grammar.{Line}
 use Rattle.ios_nat.proofs.PoolLines.{stop_behind_first_address, stop_behind_last_address, stop_behind_name, stop_in_first_address, stop_in_last, stop_in_name}
-use Rattle.ios_nat.proofs.Sequences.{then_read}
+use Rattle.ios_lex.proofs.LineParts.{then_read}
 use Rattle.ios_nat.proofs.pool_lines.pool.Goals as goal
 
 pub returns-in_err-name-clause-stop : goal.returns-in_err-name-clause-stop

@@ -2,7 +2,7 @@ use Rattle.std.proofs.Common.{[], false, true, rules}
 use Rattle.ios_lex.specs.NextWords.{NoName, SomeAddress}
 use Rattle.ios_lex.specs.Stops.{BeginsWith, IsStop}
 use Rattle.ios_nat.specs.Parts.{Options, SomeGlobalEnd}
-use Rattle.ios_nat.proofs.Sequences.{address_part, some_address, stop_behind_first, stop_in_first}
+use Rattle.ios_lex.proofs.LineParts.{address_part, some_address, stop_behind_first, stop_in_first}
 use Rattle.ios_nat.proofs.StaticLines.{some_options}
 use Rattle.ios_nat.proofs.statics.global_end.Goals as goal
 

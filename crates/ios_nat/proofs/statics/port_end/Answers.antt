@@ -2,7 +2,7 @@ use Rattle.std.proofs.Common.{[], ◌∷◌, codes, true, false, rules}
 use Rattle.ios_lex.specs.NextWords.{NoName, SomeAddress}
 use Rattle.ios_lex.specs.Stops.{BeginsWith, IsStop}
 use Rattle.ios_nat.specs.Parts.{Options, SomeGlobalPort, SomeGlobalSide, SomeLocalPort, SomePort, SomePortEnd}
-use Rattle.ios_nat.proofs.Sequences.{address_part, number_part, some_address, some_number, stop_behind_first, stop_in_first, then_read}
+use Rattle.ios_lex.proofs.LineParts.{address_part, number_part, some_address, some_number, stop_behind_first, stop_in_first, then_read}
 use Rattle.ios_nat.proofs.StaticLines.{some_global_port, some_global_side, some_local_port, some_options}
 use Rattle.ios_nat.proofs.statics.port_end.Goals as goal
 

@@ -1,5 +1,4 @@
 use Rattle.std.proofs.Common.{◌≡◌, ◌∙◌}
-use Rattle.std.specs.String.{string_bytes}
 use Rattle.std.proofs.lemmas.Result.{IfOk-weaker}
 use Rattle.frame.specs.Scenario.{request_of}
 use Rattle.session.specs.Text.{no_scenario}
@@ -14,6 +13,6 @@ returns-in-Some c =
 pub returns-in-None : goal.returns-in-None
 returns-in-None c =
     let no = rw c.in-None.is at c.in_ok-first.ensures.none in
-    IfOk-weaker c.from_str.result _ _ (λ text is.
-    let same : string_bytes text ≡ no_scenario = is ∙ c.no_scenario_text.ensures in
-    rw same (none no)) c.from_str.ensures.ok
+    IfOk-weaker c.from_slice.result _ _ (λ text is.
+    let same : text.items ≡ no_scenario = is ∙ c.as_bytes.ensures.value ∙ c.no_scenario_text.ensures in
+    rw same (none no)) c.from_slice.ensures.items

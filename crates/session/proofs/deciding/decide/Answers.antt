@@ -1,7 +1,9 @@
-use Rattle.std.proofs.Common.{[], ◌∷◌, ◌≡◌, ◌∙◌, sym, ap}
+use Rattle.std.proofs.Common.{ℕ, List, [], ◌∷◌, Some, None, ◌≡◌, ◌∙◌, sym, ap, subst}
 use Rattle.std.specs.String.{string_bytes}
 use Rattle.std.proofs.lemmas.Result.{on_ok_weaker, IfErr-weaker}
 use Rattle.ios_acl.specs.Decision.{decision}
+use Rattle.ios_config.specs.Request.{packet_fields}
+use Rattle.list_questions.specs.Ranges.{ArePacket, literal_fault}
 use Rattle.mg_outside.proofs.EffectLaws.{has_read_nothing, has_written_nothing}
 use Rattle.query_lang.specs.declared.script.Kind.TheVariants as kind
 use Rattle.session.specs.Text.{decision_line}
@@ -35,9 +37,10 @@ returns-in-Err-clause-stopped g c told files =
     let line = c.args.at.now.number in
     let fault = c.in-Err.fault in
     let named = sym (rw (c.in-Some.is, c.as_slice.ensures) at c.list_at_path.ensures) in
+    let wrong = subst (λ (names : List (List ℕ)). literal_fault names packet_fields c.args.packet.now ≡ Some fault) c.names.ensures c.in-Err.ensures.fault in
     let says = rw c.reason.ensures at c.refuse_line-in-Err.ensures in
     stops_here script told line c.args.state.now (kind.Decide c.args.path.now c.args.packet.now) files files _ _ _ _ c.refuse_line-in-Err.result
-    (refused _ _ _ _ (literal c.args.path.now c.args.packet.now c.in-Some.list.now fault named c.if-packet-ne8.false c.in-Err.ensures.fault)
+    (refused _ _ _ _ (literal c.args.path.now c.args.packet.now c.in-Some.list.now fault named c.if-packet-ne8.false wrong)
     (refusal script line (literal_reason fault)))
     (has_read_nothing files) says
 
@@ -49,7 +52,9 @@ returns-in_default-decision_text-clause-stopped g c told files =
 pub returns-clause-carried : goal.returns-clause-carried
 returns-clause-carried g c told files =
     let named = sym (rw (c.in-Some.is, c.as_slice.ensures) at c.list_at_path.ensures) in
-    let carries = decides c.args.path.now c.args.packet.now c.in-Some.list.now c.in-Ok.packet named c.if-packet-ne8.false c.in-Ok.ensures.fit c.in-Ok.ensures.packet in
+    let fit = subst (λ (names : List (List ℕ)). literal_fault names packet_fields c.args.packet.now ≡ None) c.names.ensures c.in-Ok.ensures.fit in
+    let are = subst (λ (names : List (List ℕ)). ArePacket names c.args.packet.now c.in-Ok.packet) c.names.ensures c.in-Ok.ensures.packet in
+    let carries = decides c.args.path.now c.args.packet.now c.in-Some.list.now c.in-Ok.packet named c.if-packet-ne8.false fit are in
     let is : string_bytes c.in-Ok-decision_text.text ≡ decision_line (decision c.in-Some.list.now.entries c.in-Ok.packet) =
     c.in-Ok-decision_text.ensures ∙ ap decision_line c.decide-verdict.ensures in
     on_ok_weaker c.write.result
@@ -64,7 +69,9 @@ returns-clause-carried g c told files =
 pub returns-clause-stopped : goal.returns-clause-stopped
 returns-clause-stopped g c told files =
     let named = sym (rw (c.in-Some.is, c.as_slice.ensures) at c.list_at_path.ensures) in
-    let carries = decides c.args.path.now c.args.packet.now c.in-Some.list.now c.in-Ok.packet named c.if-packet-ne8.false c.in-Ok.ensures.fit c.in-Ok.ensures.packet in
+    let fit = subst (λ (names : List (List ℕ)). literal_fault names packet_fields c.args.packet.now ≡ None) c.names.ensures c.in-Ok.ensures.fit in
+    let are = subst (λ (names : List (List ℕ)). ArePacket names c.args.packet.now c.in-Ok.packet) c.names.ensures c.in-Ok.ensures.packet in
+    let carries = decides c.args.path.now c.args.packet.now c.in-Some.list.now c.in-Ok.packet named c.if-packet-ne8.false fit are in
     let is : string_bytes c.in-Ok-decision_text.text ≡ decision_line (decision c.in-Some.list.now.entries c.in-Ok.packet) =
     c.in-Ok-decision_text.ensures ∙ ap decision_line c.decide-verdict.ensures in
     IfErr-weaker c.write.result _ _

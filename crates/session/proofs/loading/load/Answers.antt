@@ -1,11 +1,12 @@
-use Rattle.std.proofs.Common.{[], ◌∷◌, ◌∙◌, Err, sym, ap}
+use Rattle.std.proofs.Common.{◌≡◌, [], ◌∷◌, ◌∙◌, Err, sym, ap}
 use Rattle.std.proofs.lemmas.Result.{IfErr-weaker}
 use Rattle.mg_outside.proofs.EffectLaws.{has_read_nothing, has_written_nothing}
 use Rattle.session.specs.declared.ended.Reason.TheVariants as reason
-use Rattle.session.specs.Endings.{router_line}
 use Rattle.session.specs.Run.{EndsAt, IsCutShort, effects, stops, wants}
 use Rattle.query_lang.specs.declared.script.Kind.TheVariants as kind
-use Rattle.session.specs.Steps.{reads_of, reason_of, with_router, loads, taken, refused, unread, refused_file}
+use Rattle.session.specs.Text.{router_line}
+use Rattle.session.specs.Kept.{adding}
+use Rattle.session.specs.Steps.{State, reads_of, ios_reason, with_router, loads, taken, refused, unread, refused_file}
 use Rattle.session.proofs.Ends.{stops_here, cut_or_wants_here, wants_here}
 use Rattle.session.proofs.Faults.{unread_ends}
 use Rattle.session.proofs.Progress.{refusal}
@@ -45,31 +46,33 @@ returns-in-Err-clause-stopped g c =
     rw free at ended)
     (λ reads rest are is. rw is (wants reads rest (rw free are) tt))
 
-pub returns-in-Ok-read_config-clause-carried : goal.returns-in-Ok-read_config-clause-carried
-returns-in-Ok-read_config-clause-carried g c =
-    let router = c.in-Ok-read_config.router in
+pub returns-in-Ok-read_router-clause-carried : goal.returns-in-Ok-read_router-clause-carried
+returns-in-Ok-read_router-clause-carried g c =
+    let router = c.in-Ok-read_router.router in
     let free = sym c.is_taken.ensures ∙ c.if-is_taken.false in
     let told = c.in-Ok.ensures in
     let gives = rw (← c.as_slice.ensures.value) at told.bytes in
     both_on_ok c.add_router.result
-    (λ is written. rw is (record {
+    (λ is written.
+    let made : c.add_router.new.state ≡ with_router c.args.state.now c.args.name.now router = is ∙ ap (λ (known : State). adding known c.args.name.now router) c.in-Ok-read_router.ensures.names in
+    rw made (record {
       pieces = router_line c.args.name.now router ∷ [];
-      carries = loads c.args.file.now c.args.name.now c.as_slice.result.now router free gives c.in-Ok-read_config.ensures.read;
+      carries = loads c.args.file.now c.args.name.now c.as_slice.result.now router free gives c.in-Ok-read_router.ensures.read;
       on_files = rw free (record { names = told.named (λ why. cc); faults = told.no_fault (λ why. cc) });
       on_sink = written;
     }))
     c.add_router.ensures.added c.add_router.ensures.written
 
-pub returns-in-Ok-read_config-clause-stopped : goal.returns-in-Ok-read_config-clause-stopped
-returns-in-Ok-read_config-clause-stopped g c =
-    let router = c.in-Ok-read_config.router in
+pub returns-in-Ok-read_router-clause-stopped : goal.returns-in-Ok-read_router-clause-stopped
+returns-in-Ok-read_router-clause-stopped g c =
+    let router = c.in-Ok-read_router.router in
     let free = sym c.is_taken.ensures ∙ c.if-is_taken.false in
     let told = c.in-Ok.ensures in
     let gives = rw (← c.as_slice.ensures.value) at told.bytes in
     IfErr-weaker c.add_router.result _ _
     (λ end ends. cut_or_wants_here c.args.at.now.script.now _ c.args.at.now.number c.args.state.now (kind.LoadIos c.args.file.now c.args.name.now) _ _ _ _
     (router_line c.args.name.now router) (with_router c.args.state.now c.args.name.now router) end
-    (loads c.args.file.now c.args.name.now c.as_slice.result.now router free gives c.in-Ok-read_config.ensures.read)
+    (loads c.args.file.now c.args.name.now c.as_slice.result.now router free gives c.in-Ok-read_router.ensures.read)
     (rw free (record { names = told.named (λ why. cc); faults = told.no_fault (λ why. cc) })) ends)
     c.add_router.ensures.cut
 
@@ -81,9 +84,9 @@ returns-in-Err-At-clause-stopped g c =
     let gives = rw (← c.as_slice.ensures.value) at told.bytes in
     let why = c.in-Err-At.reason in
     let is_refused = rw c.in-Err-At.field-0-is at c.in-Err-At.ensures.refused in
-    let says = rw c.of.ensures at c.refuse.ensures in
+    let says = rw c.of_ios.ensures at c.refuse.ensures in
     stops_here c.args.at.now.script.now _ c.args.at.now.number c.args.state.now (kind.LoadIos file c.args.name.now) _ _ _ _ _ _ c.refuse.result
-    (refused_file file c.args.name.now _ c.as_slice.result.now c.in-Err-At.line why _ free gives is_refused (refusal file c.in-Err-At.line (reason_of why)))
+    (refused_file file c.args.name.now _ c.as_slice.result.now c.in-Err-At.line why _ free gives is_refused (refusal file c.in-Err-At.line (ios_reason why)))
     (rw free (record { names = told.named (λ same. cc); faults = told.no_fault (λ same. cc) })) says
 
 pub returns-clause-stopped : goal.returns-clause-stopped

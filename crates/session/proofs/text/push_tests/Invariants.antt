@@ -1,5 +1,4 @@
 use Rattle.std.proofs.Common.{◌≡◌, ◌++◌, drop}
-use Rattle.std.specs.String.{string_bytes}
 use Rattle.std.specs.List.{flat_map}
 use Rattle.frame.specs.Scenario.{request_of}
 use Rattle.session.specs.Text.{test_line}
@@ -8,4 +7,4 @@ use Rattle.session.proofs.text.push_tests.Given as goal
 -- the text so far and the lines that are left are all of it
 abbrev pub invariant-loop-test : goal.invariant-loop-test
 invariant-loop-test l =
-    string_bytes l.text ++ flat_map (test_line (request_of l.packet)) (drop l.test-index l.tests) ≡ string_bytes l.initial.text ++ flat_map (test_line (request_of l.packet)) l.tests
+    l.text.items ++ flat_map (test_line (request_of l.packet)) (drop l.test-index l.tests) ≡ l.initial.text.items ++ flat_map (test_line (request_of l.packet)) l.tests

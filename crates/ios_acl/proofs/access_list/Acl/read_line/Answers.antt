@@ -4,7 +4,7 @@ use Rattle.std.proofs.lemmas.Result.{on_ok_weaker, IfErr-weaker}
 use Rattle.ios_acl.specs.Adding.{CannotAdd}
 use Rattle.ios_acl.specs.Faults.{IsFault}
 use Rattle.ios_acl.specs.Reading.{remark, taken}
-use Rattle.ios_acl.proofs.LineReadings.{sentence_entry, sentence_remark, number_is_free, stop_refused, fault_is_for, added_reads, not_added_refused}
+use Rattle.ios_acl.proofs.LineReadings.{sentence_entry, sentence_remark, number_is_free, stop_refused, added_reads, not_added_refused}
 use Rattle.ios_acl.proofs.access_list.Acl.read_line.Goals as goal
 
 pub returns-then-is_taken-clause-refused : goal.returns-then-is_taken-clause-refused
@@ -14,11 +14,9 @@ returns-then-is_taken-clause-refused c =
 
 pub returns-in-Err-clause-refused : goal.returns-in-Err-clause-refused
 returns-in-Err-clause-refused c =
-    rw (← c.self.view_is)
-    (fault_is_for _ _ _ c.fault_of.result
+    rw (← c.self.view_is, c.in_ok-why-in-Err.ensures)
     (stop_refused _ c.args.words.now c.opened-number.result.0 c.opened-number.result.1.now c.in-Err.stop c.opened-number.ensures.opened
     (λ given. false≢true (c.if-is_taken.ensures.1 (rw c.as_slice.ensures.value given))) c.in-Err.ensures.stop)
-    c.fault_of.ensures)
 
 pub add-requires-clause-spelled : goal.add-requires-clause-spelled
 add-requires-clause-spelled c =

@@ -7,7 +7,7 @@ use Rattle.ios_interface.proofs.LineFaults.{rest_fault}
 use Rattle.ios_interface.proofs.draft.Draft.read_line.Goals as goal
 
 pub returns-in-Some-clause-refused : goal.returns-in-Some-clause-refused
-returns-in-Some-clause-refused c = rw c.in_ok-unmodelled.ensures (unmodelled (texts c.in-Some.opening.now) c.in-Some.ensures.found)
+returns-in-Some-clause-refused c = rw c.in_ok-unmodelled_words.ensures (unmodelled (texts c.in-Some.opening.now) c.in-Some.ensures.found)
 
 pub returns-in_err-read_address-in-Address-clause-refused : goal.returns-in_err-read_address-in-Address-clause-refused
 returns-in_err-read_address-in-Address-clause-refused c =

@@ -5,7 +5,7 @@ use Rattle.ios_nat.proofs.LineFaults.{rest_fault}
 use Rattle.ios_nat.proofs.table.NatTable.read_line.Goals as goal
 
 pub returns-in_default-clause-refused : goal.returns-in_default-clause-refused
-returns-in_default-clause-refused c = c.unopened.ensures c.args.self.now
+returns-in_default-clause-refused c = c.in_ok-unopened.ensures c.args.self.now
 
 pub returns-in-Static-clause-refused : goal.returns-in-Static-clause-refused
 returns-in-Static-clause-refused c =

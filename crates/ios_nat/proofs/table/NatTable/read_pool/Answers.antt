@@ -2,7 +2,7 @@ use Rattle.std.proofs.Common.{◌≡◌, ◌++◌, ◌∷◌, [], refl, rules}
 use Rattle.std.proofs.lemmas.Bool.{false≢true}
 use Rattle.ios_nat.specs.declared.kind.Kind.TheVariants as kinds
 use Rattle.ios_nat.specs.Reading.{Adds, taken}
-use Rattle.ios_nat.proofs.LineFaults.{fault_is_for, pool_free, stop_fails}
+use Rattle.ios_nat.proofs.LineFaults.{pool_free, stop_fails}
 use Rattle.ios_nat.proofs.table.NatTable.read_pool.Goals as goal
 
 pub returns-then-is_taken-clause-refused : goal.returns-then-is_taken-clause-refused
@@ -10,9 +10,8 @@ returns-then-is_taken-clause-refused c = rw (← c.self.view_is) (taken (refl, c
 
 pub returns-in-Err-clause-refused : goal.returns-in-Err-clause-refused
 returns-in-Err-clause-refused c =
-    rw (← c.self.view_is)
-    (fault_is_for _ kinds.Pool c.args.rest.now _ c.fault_of.result
-    (stop_fails _ kinds.Pool c.args.rest.now c.in-Err.stop (λ given. false≢true (c.if-is_taken.ensures.1 given.1)) c.in-Err.ensures.stop) c.fault_of.ensures)
+    rw (← c.self.view_is, c.in_ok-why-in-Err.ensures)
+    (stop_fails _ kinds.Pool c.args.rest.now c.in-Err.stop (λ given. false≢true (c.if-is_taken.ensures.1 given.1)) c.in-Err.ensures.stop)
 
 pub add-requires : goal.add-requires
 add-requires c =

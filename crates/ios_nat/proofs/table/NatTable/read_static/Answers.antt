@@ -2,13 +2,13 @@ use Rattle.std.proofs.lemmas.Result.{IfErr-weaker, on_ok_weaker}
 use Rattle.ios_nat.specs.declared.kind.Kind.TheVariants as kinds
 use Rattle.ios_nat.specs.Faults.{IsDuplicate, IsRestFault}
 use Rattle.ios_nat.specs.Reading.{Adds, is_address_taken, is_port_taken}
-use Rattle.ios_nat.proofs.LineFaults.{address_fault, fault_is_for, port_fault, static_free, stop_fails}
+use Rattle.ios_nat.proofs.LineFaults.{address_fault, port_fault, static_free, stop_fails}
 use Rattle.ios_nat.proofs.table.NatTable.read_static.Goals as goal
 
 pub returns-in-Err-clause-refused : goal.returns-in-Err-clause-refused
 returns-in-Err-clause-refused c =
-    fault_is_for c.args.self.now kinds.Static c.args.rest.now _ c.fault_of.result
-    (stop_fails c.args.self.now kinds.Static c.args.rest.now c.in-Err.stop (static_free c.args.self.now c.args.rest.now) c.in-Err.ensures.stop) c.fault_of.ensures
+    rw c.in_ok-why-in-Err.ensures
+    (stop_fails c.args.self.now kinds.Static c.args.rest.now c.in-Err.stop (static_free c.args.self.now c.args.rest.now) c.in-Err.ensures.stop)
 
 pub returns-in-Port-clause-read : goal.returns-in-Port-clause-read
 returns-in-Port-clause-read c =

@@ -1,5 +1,5 @@
 use Rattle.std.proofs.Common.{List}
-use Rattle.ios_route.specs.declared.interface.Interface.{Interface}
+use Rattle.ios_route.specs.Interfaces.{Interface}
 use Rattle.ios_route.specs.ActiveRoutes.{connected}
 use Rattle.ios_route.specs.Exits.{AreExits}
 use Rattle.ios_route.proofs.TowardsHops.{AreSearched}

@@ -7,11 +7,8 @@ use Rattle.query_lang.proofs.read.formulas.+formula.Given as goal
 abbrev pub decreases-negation : goal.decreases-negation
 decreases-negation l = 8 * (length l.tokens.now - l.at) + 0
 
-abbrev pub decreases-forall : goal.decreases-forall
-decreases-forall l = 8 * (length l.tokens.now - l.at) + 0
-
-abbrev pub decreases-exists : goal.decreases-exists
-decreases-exists l = 8 * (length l.tokens.now - l.at) + 0
+abbrev pub decreases-quantified : goal.decreases-quantified
+decreases-quantified l = 8 * (length l.tokens.now - l.at) + 0
 
 abbrev pub decreases-group : goal.decreases-group
 decreases-group l = 8 * (length l.tokens.now - l.at) + 0

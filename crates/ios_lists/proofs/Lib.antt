@@ -1,0 +1,15 @@
+pub mod AclFaults
+pub mod DifferentNames
+pub mod Places
+pub mod Found
+pub mod Growing
+pub mod BlockEntries
+pub mod Heads
+pub mod BlockKinds
+pub mod NumberedLines
+pub mod NumberedOutcomes
+pub mod OneNumbered
+pub mod HeadOutcomes
+pub mod OneHead
+pub mod OneEntry
+pub mod SomeReading
