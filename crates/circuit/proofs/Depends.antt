@@ -1,7 +1,7 @@
 -- A node's value depends on the inputs from which it is made, and on no others.
-use Rattle.std.proofs.Common.{◌≡◌, ℕ, ◌+◌, ◌<◌, ◌≤◌, zero, suc, Bool, true, false, Option, Some, None, is_none, not, ◌&&◌, ◌||◌, List, [], ◌∷◌, ◌++◌, length, get_or, take, drop, set, replicate, if◌then◌else◌, refl, sym, ap, ap₂, subst, ◌∙◌, inl, inr, arith}
-use Rattle.std.specs.List.{AllByRecursion, list_all, list_any}
-use Rattle.std.proofs.lemmas.List.{length_push, get_or_append_left, get_or_push, get_or_past, take_more, get_or_read, append-nil, drop_all, take_all, take-append-drop, length-take-le, length-set, get_or-set_same, get_or-set_other, length-replicate}
+use Rattle.std.proofs.Common.{◌≡◌, ℕ, ◌+◌, ◌<◌, ◌≤◌, zero, suc, Bool, true, false, Option, Some, None, is_none, not, List, [], ◌∷◌, ◌++◌, length, get_or, take, drop, set, replicate, if◌then◌else◌, refl, sym, ap, ap₂, subst, ◌∙◌, inl, inr, arith}
+use Rattle.std.specs.List.{AllByRecursion}
+use Rattle.std.proofs.lemmas.List.{length_push, get_or_append_left, get_or_push, get_or_past, get_or_read, append-nil, drop_all, take_all, length-take-le, length-set, get_or-set_same, get_or-set_other, length-replicate}
 use Rattle.std.proofs.lemmas.List.Sums.{count_by_more_yes, count_by_more_no}
 use Rattle.std.proofs.lemmas.Bool.{cases_lt, cases_eq, both_ways}
 use Rattle.circuit.specs.declared.gate.Gate.{Gate}
@@ -10,37 +10,10 @@ use Rattle.circuit.specs.Value.{value_at, gate_value, values, value, parts_of, i
 use Rattle.circuit.specs.Support.{with_marks, IsClosedAt, IsCone, IsInputNeeded, AreInputsNeeded, AgreeOn, IsSupportBy}
 use Rattle.circuit.proofs.Below.{below-weaker}
 use Rattle.circuit.specs.Settled.{settled, settled_at}
-use Rattle.circuit.proofs.Extend.{value_push, value-append}
+use Rattle.circuit.proofs.Extend.{value_of_gate, part_value, all_same, any_same}
 use Rattle.circuit.proofs.Settling.{settled_is_value}
 
--- ---- a node's value by the values of the nodes before it
-value_front : (gates : List Gate) (inputs : List Bool) (n node : ℕ) → n ≤ length gates → node < n → value gates inputs node ≡ value (take n gates) inputs node
-value_front gates inputs n node h k =
-    let m = length-take-le n gates h in
-    ap (λ gs. value gs inputs node) (sym (take-append-drop n gates)) ∙ value-append (take n gates) (drop n gates) inputs node (omega arith)
-
-value_of_gate : (gates : List Gate) (inputs : List Bool) (node : ℕ) (g : Gate) → node < length gates → value gates inputs node ≡ gate_value inputs (values (take node gates) inputs) (get_or gates node g)
-value_of_gate gates inputs node g h =
-    let m : length (take node gates) ≡ node = length-take-le node gates (omega arith) in
-    let front : List Gate = take node gates ++ get_or gates node g ∷ [] in
-    value_front gates inputs (node + 1) node (omega arith) (omega arith)
-    ∙ ap (λ gs. value gs inputs node) (take_more gates node g h)
-    ∙ ap (λ k. value front inputs k) (sym m)
-    ∙ value_push (take node gates) (get_or gates node g) inputs
-
-part_value : (gates : List Gate) (inputs : List Bool) (node part : ℕ) → node ≤ length gates → part < node → value_at (values (take node gates) inputs) part ≡ value gates inputs part
-unfolding value
-part_value gates inputs node part h k = sym (value_front gates inputs node part h k)
-
 -- ---- gates over nodes of the same values
-all_same : (f g : ℕ → Bool) (parts : List ℕ) → AllByRecursion (λ part. f part ≡ g part) parts → list_all f parts ≡ list_all g parts
-all_same f g [] h = refl
-all_same f g (part ∷ parts) h = ap (λ t. t && list_all f parts) h.0 ∙ ap (λ t. g part && t) (all_same f g parts h.1)
-
-any_same : (f g : ℕ → Bool) (parts : List ℕ) → AllByRecursion (λ part. f part ≡ g part) parts → list_any f parts ≡ list_any g parts
-any_same f g [] h = refl
-any_same f g (part ∷ parts) h = ap (λ t. t || list_any f parts) h.0 ∙ ap (λ t. g part || t) (any_same f g parts h.1)
-
 gate_same : (needed xs ys vs ws : List Bool) (g : Gate) → AgreeOn needed xs ys → IsInputNeeded needed g → AllByRecursion (λ part. value_at vs part ≡ value_at ws part) (parts_of g) → gate_value xs vs g ≡ gate_value ys ws g
 gate_same needed xs ys vs ws (gate.Input number) agree input parts = agree number input
 gate_same needed xs ys vs ws (gate.And parts) agree input same = all_same (value_at vs) (value_at ws) parts same

@@ -4,7 +4,8 @@ use Rattle.std.proofs.lemmas.List.{length-replicate, take_all, get_or_default}
 use Rattle.std.proofs.lemmas.Bool.{both_ways}
 use Rattle.circuit.specs.declared.gate.Gate.{Gate}
 use Rattle.circuit.specs.Value.{value_at, value, input_count}
-use Rattle.circuit.specs.Least.{LexLe, Satisfies}
+use Rattle.cnf.specs.Order.{LexLe}
+use Rattle.circuit.specs.Least.{Satisfies}
 use Rattle.circuit.specs.Settled.{settled, settled_at}
 use Rattle.circuit.specs.Support.{AgreeOn, IsSupport}
 use Rattle.circuit.specs.Search.{IsLeastAfter, NoneAfter, Finds}

@@ -4,7 +4,7 @@ use Rattle.std.specs.Int.{bit_at}
 use Rattle.std.proofs.Math.Nat.{pow-suc}
 use Rattle.std.proofs.lemmas.Nat.{pow_pos}
 use Rattle.std.proofs.lemmas.Nat.Bits.{bit_at-lt, bit_at_cat_high, bit_at_lowest}
-use Rattle.circuit.specs.Least.{LexLe}
+use Rattle.cnf.specs.Order.{LexLe}
 use Rattle.circuit.specs.Number.{number}
 use Rattle.circuit.proofs.Agree.{digit, both_low, highest}
 use lib.Arith.{mod-mul}

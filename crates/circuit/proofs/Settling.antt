@@ -10,7 +10,7 @@ use Rattle.std.proofs.lemmas.List.Elements.{recursion_from_All}
 use Rattle.std.proofs.lemmas.Bool.{cases_lt, and_right, or_right}
 use Rattle.circuit.specs.declared.gate.Gate.{Gate}
 use Rattle.circuit.specs.declared.gate.Gate.TheVariants as gate
-use Rattle.circuit.specs.Value.{value_at, gate_value, values, value, is_input, input_count, IsNumbered, IsCircuit}
+use Rattle.circuit.specs.Value.{value_at, gate_value, values, value, is_input, input_count, IsInputBelow, IsNumbered, IsCircuit}
 use Rattle.circuit.specs.Settled.{settled_at, settled_and, settled_or, settled_all, settled_any, settled_ite, settled_value, settled, StaysSettled}
 
 abbrev step : List Bool → List (Option Bool) → Gate → List (Option Bool)
@@ -294,13 +294,6 @@ known_push : (table : List (Option Bool)) (o : Option Bool) → AllByRecursion I
 known_push [] o h k = (k, tt)
 known_push (p ∷ table) o h k = (h.0, known_push table o h.1 k)
 
-abbrev IsInputBelow : ℕ → Gate → Type 0
-IsInputBelow count (gate.Input number) = number < count
-IsInputBelow count (gate.And parts) = Unit {0}
-IsInputBelow count (gate.Or parts) = Unit {0}
-IsInputBelow count (gate.Not part) = Unit {0}
-IsInputBelow count (gate.Ite condition a b) = Unit {0}
-
 known-gate : (chosen : List Bool) (table : List (Option Bool)) (g : Gate) → AllByRecursion IsKnown table → IsInputBelow (length chosen) g → IsKnown (settled_value chosen table g)
 known-gate chosen table (gate.Input number) h below = known-input chosen number below
 known-gate chosen table (gate.And parts) h below = known-all (settled_at table) (known_at table h) parts
@@ -321,10 +314,11 @@ below_next m n (gate.Or parts) e h = tt
 below_next m n (gate.Not part) e h = tt
 below_next m n (gate.Ite condition a b) e h = tt
 
+pub input_below : (gates : List Gate) → IsCircuit gates → (k : ℕ) (d : Gate) → k < length gates → IsInputBelow (input_count gates) (get_or gates k d)
+input_below gates c k d h = below_next (input_count (take k gates)) (input_count gates) (get_or gates k d) (c k d h).number (sum_by_more_le (λ g. cond (is_input g) 1 0) gates k d h)
+
 inputs_below : (gates : List Gate) → IsCircuit gates → AllByRecursion (IsInputBelow (input_count gates)) gates
-inputs_below gates c =
-    recursion_from_All (IsInputBelow (input_count gates)) gates
-    (λ k d h. below_next (input_count (take k gates)) (input_count gates) (get_or gates k d) (c k d h).number (sum_by_more_le (λ g. cond (is_input g) 1 0) gates k d h))
+inputs_below gates c = recursion_from_All (IsInputBelow (input_count gates)) gates (input_below gates c)
 
 all_known : (gates : List Gate) (chosen : List Bool) → IsCircuit gates → length chosen ≡ input_count gates → AllByRecursion IsKnown (settled gates chosen)
 unfolding settled

@@ -1,18 +1,17 @@
--- The circuit that each call leaves, as a definition of what the call was given.
-use Rattle.std.specs.Prelude.{ℕ, zero, suc, ◌+◌, ◌*◌, ◌/◌, ◌^◌, ◌==◌, ◌&&◌, nat_lt, Bool, true, false, List, [], ◌∷◌, ◌++◌, length, if◌then◌else◌}
+-- The circuit that each call leaves and the node that it answers, as a definition of what the call was given.
+use Rattle.std.specs.Prelude.{ℕ, ◌/◌, ◌^◌, ◌==◌, ◌&&◌, nat_lt, Bool, true, false, List, [], ◌∷◌, ◌++◌, length, if◌then◌else◌}
 use Rattle.std.specs.Int.{bit_at}
 use Rattle.circuit.specs.declared.gate.Gate.{Gate}
 use Rattle.circuit.specs.declared.gate.Gate.TheVariants as gate
 use Rattle.circuit.specs.Value.{input_count}
+use Rattle.circuit.specs.Sharing.{Made, found_or_added, MadeAll, made_all}
 use Rattle.bit_patterns.specs.Patterns.{agrees}
-
-abbrev pub with_gate : List Gate → Gate → List Gate
-with_gate gates g = gates ++ g ∷ []
 
 -- one more input, numbered after the ones before it
 abbrev pub with_input : List Gate → List Gate
-with_input gates = with_gate gates (gate.Input (input_count gates))
+with_input gates = gates ++ gate.Input (input_count gates) ∷ []
 
+-- ---- a wildcard test
 -- the nodes of a number, its highest bit first, that have to be this bit: the value has it, and the wildcard a 0
 abbrev pub fixed_nodes : List ℕ → ℕ → ℕ → ℕ → List ℕ
 fixed_nodes [] value wildcard bit = []
@@ -28,17 +27,14 @@ differing_gate bits value wildcard =
     then gate.Or (fixed_nodes bits value wildcard 0)
     else gate.And []
 
--- the three gates of a wildcard test, on a circuit of so many nodes; the last one is the test
-abbrev pub masked_gates : ℕ → List ℕ → ℕ → ℕ → List Gate
-masked_gates nodes bits value wildcard =
-    differing_gate bits value wildcard
-    ∷ gate.Not nodes
-    ∷ gate.And (fixed_nodes bits value wildcard 1 ++ (nodes + 1) ∷ [])
-    ∷ []
+-- all that have to be 1 are, and none differs
+abbrev pub with_masked : List Gate → List ℕ → ℕ → ℕ → Made
+with_masked gates bits value wildcard =
+    let differing = found_or_added gates (differing_gate bits value wildcard) in
+    let alike = found_or_added differing.gates (gate.Not differing.node) in
+    found_or_added alike.gates (gate.And (fixed_nodes bits value wildcard 1 ++ alike.node ∷ []))
 
-abbrev pub with_masked : List Gate → List ℕ → ℕ → ℕ → List Gate
-with_masked gates bits value wildcard = gates ++ masked_gates (length gates) bits value wildcard
-
+-- ---- a range test
 -- true or false everywhere
 abbrev pub constant_gate : Bool → Gate
 constant_gate value = if value then gate.And [] else gate.Or []
@@ -48,49 +44,50 @@ constant_gate value = if value then gate.And [] else gate.Or []
 abbrev pub bit_gate : ℕ → ℕ → ℕ → Gate
 bit_gate bit lower digit = if digit == 1 then gate.And (bit ∷ lower ∷ []) else gate.Or (bit ∷ lower ∷ [])
 
--- for each number k of bits, from none to all, a gate that compares the lowest k bits of the number with those of the
--- bound: it is true where they are above, and, if inclusive, where they are the same
-abbrev pub comparison_gates : ℕ → List ℕ → ℕ → Bool → List Gate
-comparison_gates nodes [] bound inclusive = constant_gate inclusive ∷ []
-comparison_gates nodes (bit ∷ bits) bound inclusive =
-    comparison_gates nodes bits bound inclusive ++ bit_gate bit (nodes + length bits) (bit_at bound (length bits)) ∷ []
+-- a comparison of the number with as many of the lowest bits of the bound: true where it is above them, and, if inclusive,
+-- where it is the same
+abbrev pub with_comparison : List Gate → List ℕ → ℕ → Bool → Made
+with_comparison gates [] bound inclusive = found_or_added gates (constant_gate inclusive)
+with_comparison gates (bit ∷ bits) bound inclusive =
+    let lower = with_comparison gates bits bound inclusive in
+    found_or_added lower.gates (bit_gate bit lower.node (bit_at bound (length bits)))
 
--- what was compared so far, except that no number reaches a bound that is above its bits
+-- what was compared, except that no number reaches a bound that is above its bits
 abbrev pub reached_gate : ℕ → ℕ → ℕ → Gate
 reached_gate compared count bound = if nat_lt bound (2 ^ count) then gate.And (compared ∷ []) else gate.Or []
 
--- the gates that compare a number with a bound, on a circuit of so many nodes; the last one is the test
-abbrev pub bound_gates : ℕ → List ℕ → ℕ → Bool → List Gate
-bound_gates nodes bits bound inclusive =
-    comparison_gates nodes bits bound inclusive ++ reached_gate (nodes + length bits) (length bits) bound ∷ []
+-- a comparison of the number with the whole bound
+abbrev pub with_bound : List Gate → List ℕ → ℕ → Bool → Made
+with_bound gates bits bound inclusive =
+    let compared = with_comparison gates bits bound inclusive in
+    found_or_added compared.gates (reached_gate compared.node (length bits) bound)
 
--- the gates of a range test, on a circuit of so many nodes: the number reaches its low end, and is not above its high
--- end; the last one is the test
-abbrev pub range_gates : ℕ → List ℕ → ℕ → ℕ → List Gate
-range_gates nodes bits lo hi =
-    bound_gates nodes bits lo true
-    ++ bound_gates (nodes + length bits + 2) bits hi false
-    ++ gate.Not (nodes + 2 * length bits + 3)
-    ∷ gate.And ((nodes + length bits + 1) ∷ (nodes + 2 * length bits + 4) ∷ [])
-    ∷ []
+-- the number reaches its low end, and is not above its high end
+abbrev pub with_range : List Gate → List ℕ → ℕ → ℕ → Made
+with_range gates bits lo hi =
+    let reached = with_bound gates bits lo true in
+    let above = with_bound reached.gates bits hi false in
+    let kept = found_or_added above.gates (gate.Not above.node) in
+    found_or_added kept.gates (gate.And (reached.node ∷ kept.node ∷ []))
 
-abbrev pub with_range : List Gate → List ℕ → ℕ → ℕ → List Gate
-with_range gates bits lo hi = gates ++ range_gates (length gates) bits lo hi
+-- ---- a test of two lists
+-- true where the two nodes have the same value
+abbrev pub with_pair : List Gate → ℕ → ℕ → Made
+with_pair gates a b =
+    let other = found_or_added gates (gate.Not b) in
+    found_or_added other.gates (gate.Ite a b other.node)
 
--- two gates for each pair; the second is true where the two have the same value
-abbrev pub pair_gates : ℕ → List ℕ → List ℕ → List Gate
-pair_gates nodes [] ys = []
-pair_gates nodes (x ∷ xs) [] = []
-pair_gates nodes (x ∷ xs) (y ∷ ys) = gate.Not y ∷ gate.Ite x y nodes ∷ pair_gates (nodes + 2) xs ys
+-- such a node for each pair, in order
+abbrev pub with_pairs : List Gate → List ℕ → List ℕ → MadeAll
+with_pairs gates [] ys = made_all gates []
+with_pairs gates (x ∷ xs) [] = made_all gates []
+with_pairs gates (x ∷ xs) (y ∷ ys) =
+    let first = with_pair gates x y in
+    let others = with_pairs first.gates xs ys in
+    made_all others.gates (first.node ∷ others.nodes)
 
--- the second gates of so many pairs
-abbrev pub pair_tests : ℕ → ℕ → List ℕ
-pair_tests nodes zero = []
-pair_tests nodes (suc count) = (nodes + 1) ∷ pair_tests (nodes + 2) count
-
--- the gates that compare two lists of nodes pair by pair, on a circuit of so many nodes; the last one is the test
-abbrev pub equal_gates : ℕ → List ℕ → List ℕ → List Gate
-equal_gates nodes a b = pair_gates nodes a b ++ gate.And (pair_tests nodes (length a)) ∷ []
-
-abbrev pub with_equal : List Gate → List ℕ → List ℕ → List Gate
-with_equal gates a b = gates ++ equal_gates (length gates) a b
+-- all pairs are the same
+abbrev pub with_equal : List Gate → List ℕ → List ℕ → Made
+with_equal gates a b =
+    let pairs = with_pairs gates a b in
+    found_or_added pairs.gates (gate.And pairs.nodes)

@@ -1,7 +1,11 @@
 pub mod Value
 pub mod Number
+pub mod Sharing
 pub mod Gates
+pub mod Append
+pub mod Clauses
 pub mod Least
+pub mod Models
 pub mod Settled
 pub mod Support
 pub mod Search

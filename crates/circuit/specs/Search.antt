@@ -3,7 +3,8 @@ use Rattle.std.specs.Prelude.{◌≡◌, ℕ, ◌<◌, Bool, List, [], ◌++◌,
 use Rattle.circuit.specs.declared.gate.Gate.{Gate}
 use Rattle.circuit.specs.Value.{IsCircuit}
 use Rattle.circuit.specs.Support.{IsSupport}
-use Rattle.circuit.specs.Least.{LexLe, Satisfies}
+use Rattle.cnf.specs.Order.{LexLe}
+use Rattle.circuit.specs.Least.{Satisfies}
 
 -- a circuit, one of its nodes, and the inputs that can change that node where nothing is chosen
 pub record IsQuestion (gates : List Gate) (root : ℕ) (needed : List Bool) : Type 0 where

@@ -51,6 +51,14 @@ IsNumbered count (gate.Or parts) = Unit {0}
 IsNumbered count (gate.Not part) = Unit {0}
 IsNumbered count (gate.Ite condition a b) = Unit {0}
 
+-- if the gate is an input, then it is one of the first so many
+abbrev pub IsInputBelow : ℕ → Gate → Type 0
+IsInputBelow count (gate.Input place) = place < count
+IsInputBelow count (gate.And parts) = Unit {0}
+IsInputBelow count (gate.Or parts) = Unit {0}
+IsInputBelow count (gate.Not part) = Unit {0}
+IsInputBelow count (gate.Ite condition a b) = Unit {0}
+
 -- a gate that may stand right after these
 pub record IsNext (before : List Gate) (g : Gate) : Type 0 where
   pub parts : AreNodes before (parts_of g)
@@ -64,3 +72,9 @@ IsCircuit gates = (place : ℕ) (g : Gate) → place < length gates → IsNext (
 pub record Extends (old new : List Gate) : Type 0 where
   pub longer : length old ≤ length new
   pub older : (inputs : List Bool) (node : ℕ) → node < length old → value new inputs node ≡ value old inputs node
+
+-- the new circuit has more gates behind those of the old one, none of them an input
+pub record Grows (old new : List Gate) : Type 0 where
+  pub more : List Gate
+  pub whole : new ≡ old ++ more
+  pub inputs : input_count new ≡ input_count old

@@ -1,9 +1,14 @@
-ghost use Rattle.std.specs.Prelude.{◌≡◌};
+ghost use Rattle.std.specs.Prelude.{◌≡◌, ◌==◌};
+ghost use Rattle.std.proofs.Common.{rules};
+ghost use Rattle.std.specs.Cmp.Lexicographic.{pointwise};
+ghost use Rattle.std.specs.Cmp.Rules.{comparing, hashing};
+ghost use Rattle.std.specs.Hash as fed;
 
+use std::hash::{Hash, Hasher};
 use std::marker::Model;
 
 /// A node of a circuit: the place of its gate.
-#[derive(Clone, Copy, Debug, PartialEq, Eq)]
+#[derive(Clone, Copy, Debug, PartialEq, Eq, Hash)]
 pub struct Node {
     place: usize,
 }
@@ -60,8 +65,32 @@ impl Parts {
     }
 }
 
+impl PartialEq for Parts {
+    ghost eq = { pointwise ◌==◌ };
+
+    ghost laws = { Prim.search (comparing, rules) };
+
+    fn eq(&self, other: &Parts) -> bool {
+        self.nodes() == other.nodes()
+    }
+}
+
+impl Eq for Parts {
+    ghost laws = { Prim.search (comparing, rules) };
+}
+
+impl Hash for Parts {
+    ghost hash_input = { fed.slice fed.usize };
+
+    ghost respects_eq = { Prim.search (hashing, rules) };
+
+    fn hash<H: Hasher>(&self, state: &mut H) {
+        self.nodes().hash(state);
+    }
+}
+
 /// How a node is made.
-#[derive(Debug, Drop)]
+#[derive(Debug, Drop, PartialEq, Eq, Hash)]
 pub enum Gate {
     /// The input of this number, counted from 0.
     Input(usize),

@@ -1,107 +1,141 @@
-ghost use Rattle.std.specs.Prelude.{◌≡◌, ◌≤◌, ◌<◌, ◌+◌, ◌*◌, ◌^◌, length, nat_lt, IfOk};
-ghost use Rattle.circuit.specs.Gates.{constant_gate, bit_gate, comparison_gates, reached_gate, bound_gates, range_gates};
+ghost use Rattle.std.specs.Prelude.{◌≡◌, ◌≤◌, ◌<◌, ◌+◌, ◌*◌, ◌^◌, Bool, true, false, List, length, map, nat_lt, IfOk, OnErr};
+ghost use Rattle.bit_patterns.specs.Patterns.{within};
+ghost use Rattle.circuit.specs.Value.{AreNodes, Extends, Grows, value as node_value};
+ghost use Rattle.circuit.specs.Number.{number};
+ghost use Rattle.circuit.specs.Sharing.{made, found_or_added};
+ghost use Rattle.circuit.specs.Gates.{constant_gate, bit_gate, reached_gate, with_comparison, with_bound, with_range};
 
 use crate::NoMemory;
-use crate::gate::{Gate, Node, Parts};
-use std::alloc::Global;
+use crate::circuit::Circuit;
+use crate::gate::Node;
 
-/// The gates of a range test, behind this many nodes. The last gate is the test.
-pub(crate) fn range_gates(
-    alloc: Global,
-    nodes: usize,
-    bits: &[Node],
-    lo: u128,
-    hi: u128,
-) -> Result<Vec<Gate>, NoMemory>
-    requires few { length bits.now ≤ 128 }
-    requires room { nodes + 2 * length bits.now + 4 < 2 ^ 64 }
-    ensures { IfOk result (λ gates. gates.items ≡ range_gates nodes bits.now lo hi) }
-{
-    let reached = nodes + bits.len() + 1;
-    let passed = nodes + 2 * bits.len() + 3;
-    let mut gates = bound_gates(alloc, nodes, bits, lo, true)?;
-    let mut above = bound_gates(alloc, reached + 1, bits, hi, false)?;
-    gates.append(&mut above)?;
-    gates.push(Gate::Not(Node::at(passed)))?;
-    let parts = vec![in alloc; Node::at(reached), Node::at(passed + 1)]?;
-    gates.push(Gate::And(Parts::new(parts)))?;
-    Ok(gates)
+impl Circuit {
+    /// A node that is true where the number of the bits is from `lo` to `hi`, both included. The bits stand highest
+    /// first, and there are at most 128. An end above all numbers of the bits is allowed, and so are ends the wrong way
+    /// round, between which there is no number.
+    pub fn range(&mut self, bits: &[Node], lo: u128, hi: u128) -> Result<Node, NoMemory>
+        requires nodes { AreNodes self.old bits.now }
+        requires few { length bits.now ≤ 128 }
+        ensures made { IfOk result (λ node.
+            made self.new node ≡ with_range self.old bits.now lo hi) }
+        ensures within { IfOk result (λ node. node < length self.new) }
+        ensures value { IfOk result (λ node. (inputs : List Bool) → node_value self.new inputs node
+            ≡ within lo hi (number (map (node_value self.old inputs) bits.now))) }
+        ensures few { length self.new ≤ length self.old + (2 * length bits.now + 6) }
+        ensures grown { Grows self.old self.new }
+        ensures older { Extends self.old self.new }
+        ensures err { OnErr result (self.new ≡ self.old) }
+    {
+        let before = self.nodes();
+        match add_range(self, bits, lo, hi) {
+            Ok(node) => Ok(node),
+            Err(error) => {
+                self.back_to(before);
+                Err(error)
+            }
+        }
+    }
 }
 
-/// The gates that compare a number with a bound, behind this many nodes. The last gate is true where the number is
-/// above the bound, and, if inclusive, where it is the same.
-fn bound_gates(
-    alloc: Global,
-    nodes: usize,
+/// `range`, but that want of memory leaves what was added.
+fn add_range(circuit: &mut Circuit, bits: &[Node], lo: u128, hi: u128) -> Result<Node, NoMemory>
+    requires nodes { AreNodes circuit.old bits.now }
+    requires few { length bits.now ≤ 128 }
+    ensures made { IfOk result (λ node.
+        made circuit.new node ≡ with_range circuit.old bits.now lo hi) }
+    ensures grown { Grows circuit.old circuit.new }
+{
+    let reached = add_bound(circuit, bits, lo, true)?;
+    let above = add_bound(circuit, bits, hi, false)?;
+    let kept = circuit.not(above)?;
+    circuit.and(&[reached, kept])
+}
+
+/// A node that is true where the number is above the bound, and, if inclusive, where it is the same.
+fn add_bound(
+    circuit: &mut Circuit,
     bits: &[Node],
     bound: u128,
     inclusive: bool,
-) -> Result<Vec<Gate>, NoMemory>
+) -> Result<Node, NoMemory>
+    requires nodes { AreNodes circuit.old bits.now }
     requires few { length bits.now ≤ 128 }
-    requires room { nodes + length bits.now < 2 ^ 64 }
-    ensures { IfOk result (λ gates. gates.items ≡ bound_gates nodes bits.now bound inclusive) }
+    ensures made { IfOk result (λ node.
+        made circuit.new node ≡ with_bound circuit.old bits.now bound inclusive) }
+    ensures within { IfOk result (λ node. node < length circuit.new) }
+    ensures grown { Grows circuit.old circuit.new }
 {
-    let mut gates = comparison_gates(alloc, nodes, bits, bound, inclusive)?;
-    gates.push(reached_gate(alloc, nodes + bits.len(), bits.len(), bound)?)?;
-    Ok(gates)
+    let compared = add_comparison(circuit, bits, bound, inclusive)?;
+    add_reached(circuit, compared, bits.len(), bound)
 }
 
-/// The gates that compare the lowest bits of a number with those of a bound: first no bits, at last all of them.
-fn comparison_gates(
-    alloc: Global,
-    nodes: usize,
+/// A node that compares the number with as many of the lowest bits of a bound.
+fn add_comparison(
+    circuit: &mut Circuit,
     bits: &[Node],
     bound: u128,
     inclusive: bool,
-) -> Result<Vec<Gate>, NoMemory>
+) -> Result<Node, NoMemory>
+    requires nodes { AreNodes circuit.old bits.now }
     requires few { length bits.now ≤ 128 }
-    requires room { nodes + length bits.now < 2 ^ 64 }
-    ensures { IfOk result (λ gates. gates.items ≡ comparison_gates nodes bits.now bound inclusive) }
+    ensures made { IfOk result (λ node.
+        made circuit.new node ≡ with_comparison circuit.old bits.now bound inclusive) }
+    ensures within { IfOk result (λ node. node < length circuit.new) }
+    ensures grown { Grows circuit.old circuit.new }
 {
-    let mut gates = Vec::new(alloc);
-    gates.push(constant_gate(alloc, inclusive))?;
+    let mut lower = add_constant(circuit, inclusive)?;
     for place in 0..bits.len() {
         let bit = bits[bits.len() - 1 - place];
-        let lower = Node::at(nodes + place);
-        gates.push(bit_gate(alloc, bit, lower, (bound >> place) & 1)?)?;
+        lower = add_bit(circuit, bit, lower, (bound >> place) & 1)?;
     }
-    Ok(gates)
+    Ok(lower)
 }
 
-fn constant_gate(alloc: Global, value: bool) -> Gate
-    ensures { result ≡ constant_gate value }
+fn add_constant(circuit: &mut Circuit, value: bool) -> Result<Node, NoMemory>
+    ensures made { IfOk result (λ node.
+        made circuit.new node ≡ found_or_added circuit.old (constant_gate value)) }
+    ensures within { IfOk result (λ node. node < length circuit.new) }
+    ensures grown { Grows circuit.old circuit.new }
 {
-    let none = Parts::new(Vec::new(alloc));
     if value {
-        Gate::And(none)
-    } else {
-        Gate::Or(none)
+        return circuit.and(&[]);
     }
+    circuit.or(&[])
 }
 
-/// The gate that adds a bit at the high end, where the bound has this digit.
-fn bit_gate(alloc: Global, bit: Node, lower: Node, digit: u128) -> Result<Gate, NoMemory>
-    ensures { IfOk result (λ gate. gate ≡ bit_gate bit lower digit) }
+/// A node that compares a bit more, at the high end, where the bound has this digit.
+fn add_bit(circuit: &mut Circuit, bit: Node, lower: Node, digit: u128) -> Result<Node, NoMemory>
+    requires bit { bit < length circuit.old }
+    requires lower { lower < length circuit.old }
+    ensures made { IfOk result (λ node.
+        made circuit.new node ≡ found_or_added circuit.old (bit_gate bit lower digit)) }
+    ensures within { IfOk result (λ node. node < length circuit.new) }
+    ensures grown { Grows circuit.old circuit.new }
 {
-    let parts = Parts::new(vec![in alloc; bit, lower]?);
     if digit == 1 {
-        Ok(Gate::And(parts))
-    } else {
-        Ok(Gate::Or(parts))
+        return circuit.and(&[bit, lower]);
     }
+    circuit.or(&[bit, lower])
 }
 
-/// The gate behind the comparison of this many bits. No number of so many bits reaches a bound above them.
-fn reached_gate(alloc: Global, compared: usize, count: usize, bound: u128) -> Result<Gate, NoMemory>
-    requires { count ≤ 128 }
-    ensures { IfOk result (λ gate. gate ≡ reached_gate compared count bound) }
+/// A node behind the comparison of this many bits. No number of so many bits reaches a bound above them.
+fn add_reached(
+    circuit: &mut Circuit,
+    compared: Node,
+    count: usize,
+    bound: u128,
+) -> Result<Node, NoMemory>
+    requires node { compared < length circuit.old }
+    requires few { count ≤ 128 }
+    ensures made { IfOk result (λ node.
+        made circuit.new node ≡ found_or_added circuit.old (reached_gate compared count bound)) }
+    ensures within { IfOk result (λ node. node < length circuit.new) }
+    ensures grown { Grows circuit.old circuit.new }
 {
     if is_below(bound, count) {
-        let parts = vec![in alloc; Node::at(compared)]?;
-        Ok(Gate::And(Parts::new(parts)))
-    } else {
-        Ok(Gate::Or(Parts::new(Vec::new(alloc))))
+        return circuit.and(&[compared]);
     }
+    circuit.or(&[])
 }
 
 /// Whether the value has no ones above this many bits.

@@ -2,7 +2,7 @@
 use Rattle.std.proofs.Common.{◌≡◌, ℕ, zero, suc, ◌<◌, ◌≤◌, Bool, true, false, List, [], ◌∷◌, map, refl, sym, ap, ap₂, ◌∙◌, ◌⊎◌, inl, inr, arith}
 use Rattle.std.proofs.Math.Nat.{eq-or-lt_of_le}
 use Rattle.std.proofs.lemmas.Bool.{cases_lt}
-use Rattle.circuit.specs.Least.{LexLe}
+use Rattle.cnf.specs.Order.{LexLe}
 use Rattle.frame.specs.Scenario.{IsNotBehind}
 
 -- of the things with a property, one has the least number; under a double negation this takes no search

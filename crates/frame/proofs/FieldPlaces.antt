@@ -5,7 +5,8 @@ use Rattle.std.proofs.Math.Path.{fun_ext, subst₂}
 use Rattle.std.proofs.Math.Pow.{pow_mono}
 use Rattle.std.proofs.lemmas.List.{take-map, drop-map, drop-drop, drop_all, length-take, length-drop, take-append-drop}
 use Rattle.circuit.specs.declared.gate.Gate.{Gate}
-use Rattle.circuit.specs.Least.{LexLe, IsLeast, Satisfies}
+use Rattle.cnf.specs.Order.{LexLe}
+use Rattle.circuit.specs.Least.{IsLeast, Satisfies}
 use Rattle.circuit.specs.Number.{number}
 use Rattle.circuit.specs.Value.{value}
 use Rattle.circuit.proofs.Numbers.{number-lt, bits_of, number-bits_of}

@@ -1,6 +1,6 @@
 -- A question has a first request, or none that solves it.
 use Rattle.std.proofs.Common.{◌≡◌, refl, sym, subst, ◌∙◌}
-use Rattle.circuit.specs.Least.{LexLe}
+use Rattle.cnf.specs.Order.{LexLe}
 use Rattle.ios_config.specs.Request.{Request, fields}
 use Rattle.frame.specs.Question.{Question, passes}
 use Rattle.frame.specs.Scenario.{IsFirst, signature, visible}

@@ -1,14 +1,13 @@
 -- The nodes of a circuit over the bits of a packet: what new ones mean, and that older ones keep their meaning.
-use Rattle.std.proofs.Common.{◌≡◌, ℕ, ◌+◌, ◌<◌, ◌&&◌, not, Bool, true, false, List, [], ◌∷◌, ◌++◌, length, map, take, Result, Ok, Err, IfOk, OnOk, OnErr, sym, ap, ap₂, ◌∙◌, arith}
+use Rattle.std.proofs.Common.{◌≡◌, ℕ, ◌+◌, ◌<◌, ◌&&◌, not, Bool, true, false, List, [], ◌∷◌, ◌++◌, length, map, take, Result, Ok, Err, IfOk, sym, ap, ap₂, ◌∙◌, arith}
 use Rattle.std.specs.List.{list_all}
 use Rattle.std.proofs.lemmas.List.{map_push, take_more}
 use Rattle.circuit.specs.declared.gate.Gate.{Gate}
 use Rattle.circuit.specs.declared.gate.Gate.TheVariants as gate
-use Rattle.circuit.specs.Gates.{with_gate, with_input}
+use Rattle.circuit.specs.Gates.{with_input}
 use Rattle.circuit.specs.Number.{number}
-use Rattle.circuit.specs.Value.{AreNodes, Extends, input_count, is_input, value, value_at}
-use Rattle.circuit.proofs.Added.{inputs_push}
-use Rattle.circuit.proofs.Extend.{AreNodes-extends, Extends-trans, map-extends, input_count-append}
+use Rattle.circuit.specs.Value.{AreNodes, Extends, Grows, input_count, value, value_at}
+use Rattle.circuit.proofs.Extend.{AreNodes-extends, Extends-trans, Grows-extends, map-extends, input_count-append}
 use Rattle.ios_acl.specs.declared.packet.Packet.{Packet}
 use Rattle.ios_config.specs.declared.request.Field.{Field}
 use Rattle.frame.specs.Bits.{field_bits}
@@ -16,18 +15,16 @@ use Rattle.frame.specs.Meaning.{Adds, HasBits, Means}
 use Rattle.frame.specs.Scenario.{request_of}
 use Rattle.frame.proofs.FieldPlaces.{field_value}
 
--- new gates without inputs leave the bits as they are
-pub HasBits-extends : (old new : List Gate) (bits : List ℕ) → HasBits old bits → Extends old new → input_count new ≡ input_count old → HasBits new bits
-HasBits-extends old new bits has extends same = record {
-  nodes = AreNodes-extends old new extends bits has.nodes;
-  count = has.count;
-  inputs = same ∙ has.inputs;
-  values = λ inputs long. map-extends old new extends inputs bits has.nodes ∙ has.values inputs long;
-}
-
-pub inputs_after_gate : {E : Type 0} (r : Result ℕ E) (old new : List Gate) (g : Gate) → is_input g ≡ false → OnOk r (new ≡ with_gate old g) → OnErr r (new ≡ old) → input_count new ≡ input_count old
-inputs_after_gate (Ok node) old new g other ok err = ap input_count ok ∙ inputs_push old g other
-inputs_after_gate (Err e) old new g other ok err = ap input_count err
+-- more gates without inputs leave the bits as they are
+pub HasBits-extends : (old new : List Gate) (bits : List ℕ) → HasBits old bits → Grows old new → HasBits new bits
+HasBits-extends old new bits has grows =
+    let extends : Extends old new = Grows-extends old new grows in
+    record {
+      nodes = AreNodes-extends old new extends bits has.nodes;
+      count = has.count;
+      inputs = grows.inputs ∙ has.inputs;
+      values = λ inputs long. map-extends old new extends inputs bits has.nodes ∙ has.values inputs long;
+    }
 
 -- a circuit with one input more
 pub input_more : (gates : List Gate) → input_count (with_input gates) ≡ input_count gates + 1
@@ -38,10 +35,6 @@ pub bits_more : (old new : List Gate) (bits : List ℕ) (node count : ℕ) (inpu
 bits_more old new bits node count inputs extends nodes front next inside =
     map_push (value new inputs) bits node
     ∙ rw (map-extends old new extends inputs bits nodes, front, next) (sym (take_more inputs count false inside))
-
-pub inputs_after : {E : Type 0} (r : Result ℕ E) (old new : List Gate) → OnOk r (input_count new ≡ input_count old) → OnErr r (new ≡ old) → input_count new ≡ input_count old
-inputs_after (Ok node) old new ok err = ok
-inputs_after (Err e) old new ok err = ap input_count err
 
 -- a node over the bits of a field means what it says of their number
 pub means_of_field : (old new : List Gate) (bits nodes : List ℕ) (f : Field) (node : ℕ) (test : ℕ → Bool) → HasBits old bits → nodes ≡ field_bits f bits → node < length new
@@ -56,14 +49,14 @@ means_of_field old new bits nodes f node test has are within worth = record {
 }
 
 pub field_adds : {E : Type 0} (r : Result ℕ E) (old new : List Gate) (bits nodes : List ℕ) (f : Field) (test : ℕ → Bool) → HasBits old bits → nodes ≡ field_bits f bits → Extends old new
-    → IfOk r (λ node. length new ≡ node + 1)
+    → IfOk r (λ node. node < length new)
     → IfOk r (λ node. (inputs : List Bool) → value new inputs node ≡ test (number (map (value old inputs) nodes)))
     → IfOk r (λ node. Adds old new node (λ packet. test (request_of packet f)))
-field_adds (Ok node) old new bits nodes f test has are extends last worth = record {
+field_adds (Ok node) old new bits nodes f test has are extends within worth = record {
   older = extends;
-  means = means_of_field old new bits nodes f node test has are (omega (arith, last)) worth;
+  means = means_of_field old new bits nodes f node test has are within worth;
 }
-field_adds (Err e) old new bits nodes f test has are extends last worth = tt
+field_adds (Err e) old new bits nodes f test has are extends within worth = tt
 
 -- a node keeps its meaning behind further gates
 pub Means-extends : (old new : List Gate) (node : ℕ) (meaning : Packet → Bool) → Extends old new → Means old node meaning → Means new node meaning

@@ -3,7 +3,7 @@ use Rattle.std.proofs.Common.{◌≡◌, ℕ, zero, suc, ◌<◌, ◌^◌, ◌&&
 use Rattle.std.specs.List.{filter, list_all, AllByRecursion}
 use Rattle.std.proofs.Math.Nat.{eq-zero-or-pos}
 use Rattle.std.proofs.lemmas.Bool.{and_from, and_parts, false≢true}
-use Rattle.circuit.specs.Least.{LexLe}
+use Rattle.cnf.specs.Order.{LexLe}
 use Rattle.ios_acl.specs.declared.entry.Entry.{Entry}
 use Rattle.ios_acl.specs.declared.entry.Verdict.{Verdict}
 use Rattle.ios_acl.specs.declared.entry.Verdict.TheVariants as verdict

@@ -4,3 +4,4 @@ pub mod Scenario
 pub mod Bits
 pub mod Meaning
 pub mod Relevance
+pub mod Asking

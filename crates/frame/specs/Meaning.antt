@@ -1,6 +1,8 @@
 -- What the nodes of a circuit over the bits of a packet say of the packet. No public call is stated by this.
-use Rattle.std.specs.Prelude.{◌≡◌, ℕ, ◌<◌, ◌&&◌, not, Bool, true, false, List, length, map}
+use Rattle.std.specs.Prelude.{◌≡◌, ℕ, ◌<◌, ◌≤◌, ◌&&◌, not, Bool, true, false, List, length, map, take}
 use Rattle.std.specs.List.{list_all}
+use Rattle.cnf.specs.Clauses.{Formula, HasNoModel}
+use Rattle.cnf.specs.Order.{IsLeast}
 use Rattle.circuit.specs.declared.gate.Gate.{Gate}
 use Rattle.circuit.specs.Value.{AreNodes, Extends, input_count, value}
 use Rattle.ios_acl.specs.declared.entry.Entry.{Entry}
@@ -71,3 +73,12 @@ decides entries verdict.Deny packet = not (permits entries packet)
 -- whether the packet passes all of the tests
 abbrev pub passes_all : List Test → Packet → Bool
 passes_all tests packet = list_all (passes (request_of packet)) tests
+
+-- the least model of the clauses begins with the bits of the least packet for which the node is true, and they have no
+-- model where it is true for no packet
+pub record AskFor (gates : List Gate) (node : ℕ) (f : Formula) : Type 0 where
+  pub bits : 126 ≤ f.vars
+  pub first : (meaning : Packet → Bool) (values : List Bool) (packet : Packet) → Means gates node meaning
+      → IsLeast f.vars f.clauses values → IsPacketOf (take 126 values) packet → IsLeastPacket meaning packet
+  pub none : (meaning : Packet → Bool) (packet : Packet) → Means gates node meaning
+      → HasNoModel f.vars f.clauses → HoldsFor meaning packet → ⊥

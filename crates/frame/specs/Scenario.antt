@@ -1,7 +1,7 @@
 -- The first scenario of a question: the one of the least signature, and of these the one of the least values.
 use Rattle.std.specs.Prelude.{◌≡◌, ◌⊎◌, ◌==◌, ◌&&◌, not, ℕ, ◌<◌, Bool, false, List, [], ◌∷◌, map}
 use Rattle.std.specs.List.{filter}
-use Rattle.circuit.specs.Least.{LexLe}
+use Rattle.cnf.specs.Order.{LexLe}
 use Rattle.ios_acl.specs.declared.packet.Packet.{Packet}
 use Rattle.ios_config.specs.declared.request.Field.TheVariants as field
 use Rattle.ios_config.specs.Request.{Request, fields, place}

@@ -1,4 +1,4 @@
-ghost use Rattle.std.specs.Prelude.{◌≡◌, ◌≤◌, ◌<◌, ◌-◌, ◌^◌, Bool, List, length};
+ghost use Rattle.std.specs.Prelude.{◌≡◌, ◌≤◌, ◌<◌, ◌-◌, ◌^◌, Bool, List, length, take};
 ghost use Rattle.circuit.specs.Number.{number};
 ghost use Rattle.frame.specs.Bits.{IsPacketOf, end_bit, field_bits, first_bit};
 
@@ -23,8 +23,16 @@ pub(crate) fn field_bits<T: Copy>(bits: &[T], field: Field) -> &[T]
     }
 }
 
+/// The packet of the first 126 values of a model: the bits of its fields in order, of each the highest first.
+pub fn model_packet(model: &[bool]) -> Packet
+    requires { 126 ≤ length model.now }
+    ensures { IsPacketOf (take 126 model.now) result }
+{
+    packet_of(&model[..126])
+}
+
 /// The packet of these 126 bits.
-pub(crate) fn packet_of(bits: &[bool]) -> Packet
+fn packet_of(bits: &[bool]) -> Packet
     requires { length bits.now ≡ 126 }
     ensures { IsPacketOf bits.now result }
 {

@@ -1,8 +1,8 @@
 //! Scenarios: the first request that answers a question about an access list.
 //!
-//! `first_packet` gives the packet of the first scenario, or says that there is none; `visible` gives the tests that a
-//! scenario is shown with. A question is a circuit over the bits of a packet, and `circuit::least` finds its least bits.
-//! `session` writes scenarios, and answers scripts with them.
+//! `question_clauses` writes a question as clauses, whose least model begins with the packet of the first scenario, and
+//! `model_packet` reads that packet; `visible` gives the tests that a scenario is shown with. A question is a circuit over
+//! the bits of a packet. What searches for models stands above.
 #![tactic(auto)]
 
 mod bits;
@@ -13,6 +13,7 @@ mod packet_circuit;
 mod question;
 mod relevance;
 
+pub use bits::model_packet;
 pub use laws::{first_or_none, one_first, shown_once};
-pub use question::{Pattern, Test, first_packet, visible};
+pub use question::{Pattern, Test, question_clauses, visible};
 pub use std::alloc::AllocError as NoMemory;

@@ -1,15 +1,14 @@
-ghost use Rattle.std.specs.Prelude.{◌≡◌, ◌<◌, ◌≤◌, not, Bool, true, List, length, map, IfOk, IfSome, IfNone};
+ghost use Rattle.std.specs.Prelude.{◌≡◌, ◌<◌, not, Bool, List, length, IfOk};
 ghost use Rattle.std.specs.List.{list_any, list_all};
-ghost use Rattle.ios_acl.specs.declared.packet.Packet.{Packet};
 ghost use Rattle.bit_patterns.specs.Patterns.{agrees, within};
 ghost use Rattle.circuit.specs.Value.{AreNodes, Extends, value as node_value};
-ghost use Rattle.frame.specs.Meaning.{Adds, Means, IsLeastPacket, HoldsFor};
+ghost use Rattle.frame.specs.Meaning.{Adds, AskFor};
 ghost use Rattle.frame.specs.Scenario.{request_of};
 
 use crate::NoMemory;
-use crate::bits::{field_bits, packet_of};
-use circuit::{Circuit, Node, least};
-use ios_acl::Packet;
+use crate::bits::field_bits;
+use circuit::{Circuit, Node, to_cnf};
+use cnf::Cnf;
 use ios_config::Field;
 use std::alloc::Global;
 use std::marker::Model;
@@ -112,19 +111,12 @@ impl PacketCircuit {
         self.circuit.not(part)
     }
 
-    /// The packet of the least bits that make the root true; none where no packet does.
-    pub(crate) fn first(&self, alloc: Global, root: Node) -> Result<Option<Packet>, NoMemory>
+    /// The clauses of the node. The least of their models begins with the bits of the least packet for which it is true;
+    /// they have none exactly where no packet makes it true.
+    pub(crate) fn clauses(&self, alloc: Global, root: Node) -> Result<Cnf, NoMemory>
         requires { root < length self.now }
-        ensures found { IfOk result (λ answer. IfSome answer (λ packet.
-            (meaning : Packet → Bool) → Means self.now root meaning
-            → IsLeastPacket meaning packet)) }
-        ensures none { IfOk result (λ answer. IfNone answer
-            ((meaning : Packet → Bool) (packet : Packet) →
-            Means self.now root meaning → HoldsFor meaning packet → ⊥)) }
+        ensures { IfOk result (AskFor self.now root) }
     {
-        match least(alloc, &self.circuit, root)? {
-            Some(inputs) => Ok(Some(packet_of(inputs.as_slice()))),
-            None => Ok(None),
-        }
+        to_cnf(alloc, &self.circuit, root)
     }
 }

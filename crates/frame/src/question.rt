@@ -1,11 +1,11 @@
-ghost use Rattle.std.specs.Prelude.{◌≡◌, ◌<◌, Bool, length, IfOk, IfSome, IfNone, ◌&&◌};
+ghost use Rattle.std.specs.Prelude.{◌≡◌, ◌<◌, Bool, length, IfOk, ◌&&◌};
 ghost use Rattle.std.specs.List.{list_any, AllByRecursion};
 ghost use Rattle.ios_acl.specs.declared.packet.Packet.{Packet};
 ghost use Rattle.ios_config.specs.Request.{place};
 ghost use Rattle.frame.specs.Meaning.{Adds, Means, passes_all};
+ghost use Rattle.frame.specs.Asking.{AreClausesOf};
 ghost use Rattle.frame.specs.Question.{IsOfPacket, accepts, asked, passes};
-ghost use Rattle.frame.specs.Solution.{HasNoSolution};
-ghost use Rattle.frame.specs.Scenario.{IsFirst, request_of, same_test};
+ghost use Rattle.frame.specs.Scenario.{request_of, same_test};
 ghost use Rattle.frame.specs.Scenario as specs;
 
 use crate::NoMemory;
@@ -14,7 +14,8 @@ use crate::packet_circuit::PacketCircuit;
 use crate::relevance::relevant;
 use bit_patterns::agrees;
 use circuit::Node;
-use ios_acl::{Entry, Packet, Verdict};
+use cnf::Cnf;
+use ios_acl::{Entry, Verdict};
 use ios_config::Field;
 use std::alloc::Global;
 
@@ -82,26 +83,23 @@ fn is_same(a: &Test, b: &Test) -> bool
     a.field == b.field && a.pattern == b.pattern
 }
 
-/// The packet of the first scenario: of the requests that the entries decide so and that pass the tests, the one of the
-/// least signature and then of the least values. The fields that are not the packet's are 0 in it. None where no
-/// request does.
-pub fn first_packet(
+/// The clauses of a question. The least of their models begins with the packet of the first scenario: of the requests
+/// that the entries decide so and that pass the tests, the one of the least signature and then of the least values; the
+/// fields that are not the packet's are 0 in it. They have no model exactly where no request does.
+pub fn question_clauses(
     alloc: Global,
     entries: &[Entry],
     verdict: Verdict,
     tests: &[Test],
-) -> Result<Option<Packet>, NoMemory>
+) -> Result<Cnf, NoMemory>
     requires { AllByRecursion IsOfPacket tests.now }
-    ensures found { IfOk result (λ answer. IfSome answer (λ packet.
-        IsFirst (asked entries.now verdict tests.now) (request_of packet))) }
-    ensures none { IfOk result (λ answer. IfNone answer
-        (HasNoSolution (asked entries.now verdict tests.now))) }
+    ensures { IfOk result (AreClausesOf (asked entries.now verdict tests.now)) }
 {
     let kept = relevant(alloc, entries, tests)?;
     let mut circuit = PacketCircuit::new(alloc)?;
     let decided = decided(alloc, &mut circuit, kept.as_slice(), verdict)?;
     let root = tested(&mut circuit, decided, tests)?;
-    circuit.first(alloc, root)
+    circuit.clauses(alloc, root)
 }
 
 /// Adds a node that is true where the other node is and the packet passes the tests.

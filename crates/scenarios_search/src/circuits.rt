@@ -1,7 +1,9 @@
 ghost use Rattle.std.specs.Prelude.{◌≡◌, ◌<◌, ◌≤◌, length, IfOk};
 ghost use Rattle.circuit.specs.Value.{AreNodes};
 
-use circuit::{Circuit, NoMemory, Node, gates_are_tests, least};
+use circuit::{
+    Circuit, NoMemory, Node, clauses_are_circuits, gates_are_shared, gates_are_tests, least, to_cnf,
+};
 use std::alloc::Global;
 use std::test::Fail;
 use test_tables::{answered, parted, push_number};
@@ -271,7 +273,37 @@ fn no_bits_are_equal(rt: HostRuntime) -> Result<(), Fail> {
     Ok(())
 }
 
+/// The choice made once more beside itself; how many nodes there were before and are there after.
+fn made_twice(circuit: &mut Circuit) -> Result<(usize, usize), NoMemory> {
+    let [condition, a, b] = three_inputs(circuit)?;
+    circuit.ite(condition, a, b)?;
+    circuit.and(&[a, b])?;
+    let before = circuit.nodes();
+    circuit.and(&[a, b])?;
+    circuit.ite(condition, a, b)?;
+    Ok((before, circuit.nodes()))
+}
+
+#[test]
+fn a_gate_is_made_once(rt: HostRuntime) {
+    let mut circuit = Circuit::new(rt.alloc());
+    let counts = made_twice(&mut circuit);
+    assert!(&rt; matches!(counts, Ok((5, 5))));
+}
+
+#[test]
+fn clauses_have_a_variable_a_node(rt: HostRuntime) -> Result<(), Fail> {
+    let mut circuit = Circuit::new(rt.alloc());
+    let root = goes_back(&mut circuit)?;
+    let clauses = to_cnf(rt.alloc(), &circuit, root)?;
+    assert_eq!(rt; clauses.vars(), 7);
+    assert_eq!(rt; clauses.clauses().len(), 13);
+    Ok(())
+}
+
 #[test]
 fn laws_of_circuits() {
+    gates_are_shared();
     gates_are_tests();
+    clauses_are_circuits();
 }

@@ -1,12 +1,16 @@
-ghost use Rattle.std.specs.Prelude.{IfOk, Contains};
+ghost use Rattle.std.specs.Prelude.{◌≡◌, ◌<◌, IfOk, Contains};
 ghost use Rattle.std.specs.List.{AllByRecursion};
 ghost use Rattle.ios_config.specs.Request.{packet_fields};
 ghost use Rattle.frame.specs.Question.{IsOfPacket};
 
-use frame::{Pattern, Test, first_or_none, first_packet, one_first, shown_once, visible};
+use frame::{Pattern, Test, first_or_none, one_first, shown_once, visible};
 use ios_acl::{Entry, Packet, Ports, Verdict};
 use ios_config::Field;
-use std::alloc::Global;
+use list_questions::first_packet;
+use sat_core::Steps;
+use std::alloc::{AllocError, Global};
+use std::marker::Brand;
+use std::sync::ledger::{Blank, Ledger};
 use std::test::Fail;
 use test_tables::{answered, parted, push_packet};
 
@@ -163,6 +167,34 @@ fn test_of(text: &str) -> Result<Test, Fail>
     Ok(Test { field, pattern })
 }
 
+/// The first packet of a question, by a search that is counted.
+fn counted<L: Ledger>(
+    alloc: Global,
+    entries: &[Entry],
+    verdict: Verdict,
+    tests: &[Test],
+    blank: Blank,
+) -> Result<Option<Packet>, AllocError>
+    requires name { blank.name ≡ L.name }
+    requires parts { blank.parts ≡ L.parts }
+    requires some { 0 < blank.parts }
+    requires tests { AllByRecursion IsOfPacket tests.now }
+{
+    let mut steps: Steps<L> = Steps::begin(blank);
+    first_packet(alloc, entries, verdict, tests, &mut steps)
+}
+
+fn first(
+    alloc: Global,
+    entries: &[Entry],
+    verdict: Verdict,
+    tests: &[Test],
+) -> Result<Option<Packet>, AllocError>
+    requires { AllByRecursion IsOfPacket tests.now }
+{
+    counted::<Brand>(alloc, entries, verdict, tests, Blank::new(1))
+}
+
 /// The first packet that passes the tests, of which there are none, one, or two with ` and ` between them.
 fn first_passing(
     alloc: Global,
@@ -171,14 +203,14 @@ fn first_passing(
     tests: &str,
 ) -> Result<Option<Packet>, Fail> {
     if tests.is_empty() {
-        return Ok(first_packet(alloc, entries, verdict, &[])?);
+        return Ok(first(alloc, entries, verdict, &[])?);
     }
     if let Some((one, other)) = tests.split_once(" and ") {
         let (one, other) = (test_of(one)?, test_of(other)?);
-        return Ok(first_packet(alloc, entries, verdict, &[one, other])?);
+        return Ok(first(alloc, entries, verdict, &[one, other])?);
     }
     let test = test_of(tests)?;
-    Ok(first_packet(alloc, entries, verdict, &[test])?)
+    Ok(first(alloc, entries, verdict, &[test])?)
 }
 
 /// Writes the first packet of a question, or `none`: a verdict, the names of entries, a colon and tests.

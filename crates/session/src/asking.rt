@@ -1,6 +1,8 @@
-ghost use Rattle.std.specs.Prelude.{◌≡◌, ℕ, List, Option, None, IsSome, IfOk, OnOk, IfErr};
+ghost use Rattle.std.specs.Prelude.{◌≡◌, ◌<◌, ℕ, List, Option, None, IsSome, IfOk, IfSome, IfNone, OnOk, IfErr};
 ghost use Rattle.std.specs.List.{AllByRecursion, list_all};
-ghost use Rattle.frame.specs.Question.{IsOfPacket as IsAskable};
+ghost use Rattle.frame.specs.Question.{IsOfPacket as IsAskable, asked};
+ghost use Rattle.frame.specs.Scenario.{IsFirst, request_of};
+ghost use Rattle.frame.specs.Solution.{HasNoSolution};
 ghost use Rattle.list_questions.specs.Ranges.{test_fits};
 ghost use Rattle.mg_outside.specs.Effects.{Performs};
 ghost use Rattle.mg_outside.specs.Logs.{FileLog};
@@ -15,11 +17,14 @@ use crate::ended::{Cause, Reason};
 use crate::endings::{Line, refuse_line, write};
 use crate::state::{Question, State};
 use crate::text::{no_scenario_text, scenario_text};
-use frame::first_packet;
-use list_questions::{FieldTest, fits, question_of, tests_of};
+use ios_acl::Packet;
+use list_questions::{FieldTest, first_packet, fits, question_of, tests_of};
 use mg_outside::Sink;
 use query_lang::Explore;
+use sat_core::Steps;
 use std::alloc::{AllocError, Global};
+use std::marker::Brand;
+use std::sync::ledger::{Blank, Ledger};
 
 /// EXPLORE: keeps the question, where its policies are known, it is about a list, and its numbers fit.
 pub fn explore<S: Sink>(
@@ -116,9 +121,35 @@ fn shown_text(alloc: Global, question: &Question<'_>) -> Result<Vec<u8>, AllocEr
         (posed question.now.entries.now question.now.verdict question.now.tests.now
         question.now.names) text.items) }
 {
-    let first = first_packet(alloc, question.entries, question.verdict, question.tests)?;
+    let first = first_of::<Brand>(alloc, question, Blank::new(1))?;
     match first {
         Some(packet) => scenario_text(alloc, &question.names, &packet, question.tests),
         None => Vec::from_slice(alloc, no_scenario_text().as_bytes()),
     }
+}
+
+/// The packet of the first scenario, by one search, which is counted by a counter of its own.
+fn first_of<L: Ledger>(
+    alloc: Global,
+    question: &Question<'_>,
+    blank: Blank,
+) -> Result<Option<Packet>, AllocError>
+    requires name { blank.name ≡ L.name }
+    requires parts { blank.parts ≡ L.parts }
+    requires some { 0 < blank.parts }
+    requires tests { AllByRecursion IsAskable question.now.tests.now }
+    ensures found { IfOk result (λ answer. IfSome answer (λ packet. IsFirst
+        (asked question.now.entries.now question.now.verdict question.now.tests.now)
+        (request_of packet))) }
+    ensures none { IfOk result (λ answer. IfNone answer (HasNoSolution
+        (asked question.now.entries.now question.now.verdict question.now.tests.now))) }
+{
+    let mut steps = Steps::<L>::begin(blank);
+    first_packet(
+        alloc,
+        question.entries,
+        question.verdict,
+        question.tests,
+        &mut steps,
+    )
 }

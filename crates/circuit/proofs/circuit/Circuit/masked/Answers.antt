@@ -1,33 +1,28 @@
-use Rattle.std.proofs.Common.{rules, ◌≡◌, ◌+◌, ◌++◌, length, sym, ap, ◌∙◌}
-use Rattle.circuit.specs.Value.{IsCircuit, input_count}
-use Rattle.circuit.specs.Gates.{masked_gates}
-use Rattle.circuit.proofs.Extend.{Extends-append}
-use Rattle.circuit.proofs.Wildcard.{value-masked, masked_next}
+use Rattle.std.proofs.Common.{map}
+use Rattle.bit_patterns.specs.Patterns.{agrees}
+use Rattle.circuit.specs.Gates.{with_masked}
+use Rattle.circuit.specs.Number.{number}
+use Rattle.circuit.specs.Sharing.{made}
+use Rattle.circuit.specs.Value.{value}
+use Rattle.circuit.proofs.Extend.{Grows-extends}
+use Rattle.circuit.proofs.Tests.{IsTest, test_at}
+use Rattle.circuit.proofs.Wildcard.{masked_test}
 use Rattle.circuit.proofs.circuit.Circuit.masked.Goals as goal
+use Rattle.circuit.proofs.circuit.Circuit.masked.Goals.{In-Ok}
 
-whole : (c : goal.After-drop-gates-2) → c.append.new.self.items ≡ c.args.self.now ++ masked_gates (length c.args.self.now) c.args.bits.now c.args.value c.args.wildcard
-whole c =
-    let long : c.len.result ≡ length c.args.self.now = search rules in
-    let view = c.self.view_is in
-    let now = c.in_ok-append.ensures.items in
-    let gates = c.in_ok-gates.ensures in
-    (cc)
+test : (c : In-Ok) → IsTest c.args.self.now (made c.add_masked.new.circuit c.in-Ok.node) 3 (λ inputs. agrees (number (map (value c.args.self.now inputs) c.args.bits.now)) c.args.value c.args.wildcard)
+test c =
+    test_at c.args.self.now (made c.add_masked.new.circuit c.in-Ok.node) (with_masked c.args.self.now c.args.bits.now c.args.value c.args.wildcard) 3 _ c.in-Ok.ensures.made
+    (masked_test c.args.self.now c.args.bits.now c.args.value c.args.wildcard c.nodes-before.ensures.circuit c.requires.nodes)
 
-pub invariant_of-self-2 : goal.invariant_of-self-2
-invariant_of-self-2 c =
-    let circuit : IsCircuit c.args.self.now = rw (← c.self.view_is) c.self.invariant.1 in
-    let next = masked_next c.args.self.now c.args.bits.now c.args.value c.args.wildcard c.requires.nodes circuit in
-    rw (whole c) (c.self.invariant.0 ∙ ap input_count c.self.view_is ∙ sym next.0, next.1)
+pub returns-in-Ok-clause-within : goal.returns-in-Ok-clause-within
+returns-in-Ok-clause-within c = (test c).within
 
-pub returns-clause-inputs : goal.returns-clause-inputs
-returns-clause-inputs c =
-    let circuit : IsCircuit c.args.self.now = rw (← c.self.view_is) c.self.invariant.1 in
-    rw (whole c) (masked_next c.args.self.now c.args.bits.now c.args.value c.args.wildcard c.requires.nodes circuit).0
+pub returns-in-Ok-clause-value : goal.returns-in-Ok-clause-value
+returns-in-Ok-clause-value c = (test c).value
 
-pub returns-clause-value : goal.returns-clause-value
-returns-clause-value c = λ inputs.
-    let at : c.at.result ≡ length c.args.self.now + 2 = search rules in
-    rw (whole c, at) (value-masked c.args.self.now c.args.bits.now c.args.value c.args.wildcard inputs c.requires.nodes)
+pub returns-in-Ok-clause-few : goal.returns-in-Ok-clause-few
+returns-in-Ok-clause-few c = (test c).few
 
-pub returns-clause-older : goal.returns-clause-older
-returns-clause-older c = rw (whole c) (Extends-append c.args.self.now (masked_gates (length c.args.self.now) c.args.bits.now c.args.value c.args.wildcard))
+pub returns-in-Ok-clause-older : goal.returns-in-Ok-clause-older
+returns-in-Ok-clause-older c = Grows-extends _ _ c.in-Ok.ensures.grown

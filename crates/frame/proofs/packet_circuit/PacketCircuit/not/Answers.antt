@@ -1,6 +1,5 @@
-use Rattle.std.proofs.Common.{refl}
-use Rattle.frame.proofs.Nodes.{HasBits-extends, inputs_after_gate}
+use Rattle.frame.proofs.Nodes.{HasBits-extends}
 use Rattle.frame.proofs.packet_circuit.PacketCircuit.not.Goals as goal
 
 pub invariant_of-self : goal.invariant_of-self
-invariant_of-self c = HasBits-extends _ _ _ c.self.invariant c.not.ensures.older (inputs_after_gate c.not.result _ _ _ refl c.not.ensures.circuit c.not.ensures.err)
+invariant_of-self c = HasBits-extends _ _ _ c.self.invariant c.not.ensures.grown

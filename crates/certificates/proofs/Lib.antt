@@ -1,0 +1,15 @@
+pub mod Cuts
+pub mod Decimals
+pub mod Listed
+pub mod LineTexts
+pub mod Entries
+pub mod Absence
+pub mod ItemTexts
+pub mod HeadTexts
+pub mod Heads
+pub mod ItemLines
+pub mod Spelled
+pub mod Refusals
+pub mod WrittenTexts
+pub mod OneCertificate
+pub mod WrittenAgain

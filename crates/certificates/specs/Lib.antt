@@ -1,0 +1,5 @@
+pub mod Writable
+pub mod Text
+pub mod Lines
+pub mod Reading
+pub mod Parts

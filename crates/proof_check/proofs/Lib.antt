@@ -1,0 +1,12 @@
+pub mod Trails
+pub mod Agreement
+pub mod Living
+pub mod Sound
+pub mod Places
+pub mod Judged
+pub mod Renumbering
+pub mod Trimmed
+pub mod Rising
+pub mod Flags
+pub mod Counting
+pub mod Writing

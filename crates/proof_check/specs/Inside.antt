@@ -1,0 +1,4 @@
+pub mod Trail
+pub mod Each
+pub mod Judging
+pub mod Trim

@@ -1,0 +1,7 @@
+pub mod Values
+pub mod Propagation
+pub mod Tables
+pub mod Derivations
+pub mod Trimming
+pub mod Refutation
+pub mod Inside

@@ -1,0 +1,4 @@
+pub mod Learning
+pub mod Forcing
+pub mod Splitting
+pub mod Assuming

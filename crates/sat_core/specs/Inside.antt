@@ -1,0 +1,4 @@
+pub mod Learning
+pub mod Walk
+pub mod Split
+pub mod Assuming

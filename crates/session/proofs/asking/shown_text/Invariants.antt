@@ -1,0 +1,4 @@
+use Rattle.session.proofs.asking.shown_text.Given as goal
+
+abbrev pub ghosts-first_of : goal.ghosts-first_of
+ghosts-first_of a = record { name = a.blank.name; parts = a.blank.parts }
