@@ -13,6 +13,9 @@ is refused; `refuse.c` stands before the library for that. What has to come:
     read    the Nth read: the same, for the file that is being read
     write   the Nth write: status 4, and a front of the text; so for a full device, and a reader that is gone
     short   each read and write moves one byte at most: status 0, and the whole text
+
+Behind the run the program reads the files again, for what it says on standard error. Where one of these calls is refused, the
+status is 0, and the text whole.
 """
 
 import os
@@ -26,6 +29,9 @@ from typing import NamedTuple
 TOP = Path(__file__).resolve().parent.parent
 STORED = TOP / "crates" / "margrave_cli"
 PROGRAM = STORED / "out" / "margrave_cli"
+
+# How many bytes of a file the program asks for at a time.
+PIECE = 4096
 
 
 class Run(NamedTuple):
@@ -53,7 +59,7 @@ class Refuser:
     def run(self, case, out=subprocess.PIPE, **refused):
         self.counts.unlink(missing_ok=True)
         given = {"LD_PRELOAD": str(self.library), "COUNTS": str(self.counts), **refused}
-        done = subprocess.run([PROGRAM, case.script], cwd=case.folder, env={**os.environ, **given}, stdin=subprocess.DEVNULL, stdout=out)
+        done = subprocess.run([PROGRAM, case.script], cwd=case.folder, env={**os.environ, **given}, stdin=subprocess.DEVNULL, stdout=out, stderr=subprocess.DEVNULL)
         lines = self.counts.read_text().splitlines() if self.counts.exists() else []
         return Run(done.returncode, done.stdout or b"", {kind: int(count) for kind, count in map(str.split, lines)})
 
@@ -99,11 +105,19 @@ def refuse_memory(case, refuser, judge, count):
         judge.line(case, f"alloc {at} of {count}", run, is_front or is_whole)
 
 
+def calls_of(kind, case, name):
+    """How many calls of this kind the run takes for a file: it is opened once, and read by pieces until one is empty."""
+    return 1 if kind == "open" else -(-(case.folder / name).stat().st_size // PIECE) + 1
+
+
 def refuse_reads(case, refuser, judge, kind, count):
-    files = loaded_files(case)
+    files = [file for file in loaded_files(case) for _ in range(calls_of(kind, case, file[0]))]
     for at in range(1, count + 1):
         run = refuser.run(case, REFUSE=kind, AT=str(at))
-        name, before = files[run.counts["open"] - 1]
+        if at > len(files):
+            judge.line(case, f"{kind} {at} of {count}, behind the run", run, run.status == 0 and run.text == case.text)
+            continue
+        name, before = files[at - 1]
         wanted = before + f"read fault: {name}\n".encode()
         judge.line(case, f"{kind} {at} of {count}, {name}", run, run.status == 3 and run.text == wanted)
 

@@ -93,8 +93,9 @@ fn push_numbers(alloc: Global, text: &mut Vec<u8>, numbers: &[usize]) -> Result<
     Ok(())
 }
 
+/// Writes the literal: its variable's number from 1, behind a minus sign where it is negative.
 #[tactic(auto, unfolding(crate::specs::Text::lit_text))]
-fn push_lit(alloc: Global, text: &mut Vec<u8>, lit: Lit) -> Result<(), NoMemory>
+pub fn push_lit(alloc: Global, text: &mut Vec<u8>, lit: Lit) -> Result<(), NoMemory>
     requires { IsWritableLit lit }
     ensures { OnOk result (text.new.items ≡ text.old.items ++ lit_text lit) }
 {

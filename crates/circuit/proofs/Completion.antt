@@ -1,8 +1,8 @@
 -- The clauses of a circuit hold of the completion of its inputs, and of nothing else.
-use Rattle.std.proofs.Common.{◌≡◌, ℕ, ◌+◌, ◌<◌, ◌≤◌, Bool, true, false, cond, ◌&&◌, ◌||◌, List, [], ◌∷◌, ◌++◌, length, map, take, drop, get_or, refl, sym, ap, ap₂, subst, ◌∙◌, ◌⊎◌, inl, inr, arith, zero, suc, append_assoc, length-append}
+use Rattle.std.proofs.Common.{◌≡◌, ℕ, ◌+◌, ◌<◌, ◌≤◌, Bool, true, false, ◌&&◌, ◌||◌, List, [], ◌∷◌, ◌++◌, length, map, take, drop, get_or, refl, sym, ap, ap₂, subst, ◌∙◌, ◌⊎◌, inl, inr, arith, zero, suc, append_assoc, length-append}
 use Rattle.std.specs.List.{AllByRecursion}
 use Rattle.std.proofs.lemmas.Bool.{and_from, and_parts, cases_lt, false≢true}
-use Rattle.std.proofs.lemmas.List.{get_or-take, get_or_append_left, length-take-le, length_push, take-append-drop, take_more, length-map}
+use Rattle.std.proofs.lemmas.List.{ext_get_or, get_or-take, get_or_append_left, length-take-le, length_push, take-append-drop, length-map}
 use Rattle.std.proofs.lemmas.List.Folds.{list_all-append}
 use Rattle.std.proofs.Math.Seq.{get_or-append_seam, take-append_seam}
 use Rattle.cnf.specs.Clauses.{IsModel, all_hold, clause_holds}
@@ -13,82 +13,25 @@ use Rattle.circuit.specs.Clauses.{circuit_formula, clauses_of, completion, gate_
 use Rattle.cnf.specs.Order.{LexLe}
 use Rattle.circuit.specs.Least.{Satisfies}
 use Rattle.circuit.specs.Models.{BeginsLeast, HasModelsOf, HasOneCompletion, inputs_of}
-use Rattle.circuit.specs.Value.{IsCircuit, IsNumbered, gate_value, input_count, is_input, parts_of, value, value_at, values}
-use Rattle.circuit.proofs.Extend.{gate_alike, input_count-append, length-values, value_at_gate}
-use Rattle.circuit.proofs.GateClauses.{at_place, gate_holds, is_same, moved_other, moved_value, same_is}
+use Rattle.circuit.specs.Value.{IsCircuit, IsInputBelow, gate_value, input_count, is_input, parts_of, value, value_at, values}
+use Rattle.circuit.proofs.Below.{below-weaker}
+use Rattle.circuit.proofs.Extend.{all_below, gate_alike, length-values, value_at_gate}
+use Rattle.circuit.proofs.GateClauses.{at_map, gate_holds, is_same, moved_other, moved_value, same_is}
+use Rattle.circuit.proofs.GateVariables.{both_counts, others, variables_count}
+use Rattle.circuit.proofs.Settling.{input_below}
 
--- ---- lists
-list_same : (xs ys : List Bool) → length xs ≡ length ys → ((place : ℕ) → place < length xs → value_at xs place ≡ value_at ys place) → xs ≡ ys
-list_same [] [] long each = refl
-list_same [] (y ∷ ys) long each = absurd (omega (arith, long))
-list_same (x ∷ xs) [] long each = absurd (omega (arith, long))
-list_same (x ∷ xs) (y ∷ ys) long each =
-    ap₂ ◌∷◌ (each 0 (omega arith)) (list_same xs ys (omega (arith, long)) (λ place within. each (suc place) (omega (arith, within))))
-
--- ---- how many gates are no inputs
-abbrev others : List Gate → ℕ
-others [] = 0
-others (gate.Input number ∷ gates) = others gates
-others (gate.And parts ∷ gates) = suc (others gates)
-others (gate.Or parts ∷ gates) = suc (others gates)
-others (gate.Not part ∷ gates) = suc (others gates)
-others (gate.Ite condition a b ∷ gates) = suc (others gates)
-
-count_first : (g : Gate) (gates : List Gate) → input_count (g ∷ gates) ≡ (cond (is_input g) 1 0) + input_count gates
-count_first g gates = input_count-append (g ∷ []) gates ∙ ap (λ n. n + input_count gates) (one (is_input g))
-  where
-    one : (b : Bool) → 0 + cond b 1 0 ≡ cond b 1 0
-    one true = refl
-    one false = refl
-
-both_counts : (gates : List Gate) → input_count gates + others gates ≡ length gates
-both_counts [] = refl
-both_counts (gate.Input number ∷ gates) = omega (arith, both_counts gates, count_first (gate.Input number) gates)
-both_counts (gate.And parts ∷ gates) = omega (arith, both_counts gates, count_first (gate.And parts) gates)
-both_counts (gate.Or parts ∷ gates) = omega (arith, both_counts gates, count_first (gate.Or parts) gates)
-both_counts (gate.Not part ∷ gates) = omega (arith, both_counts gates, count_first (gate.Not part) gates)
-both_counts (gate.Ite condition a b ∷ gates) = omega (arith, both_counts gates, count_first (gate.Ite condition a b) gates)
-
-pub length-variables_from : (next : ℕ) (gates : List Gate) → length (variables_from next gates) ≡ length gates
-length-variables_from next [] = refl
-length-variables_from next (gate.Input number ∷ gates) = ap suc (length-variables_from next gates)
-length-variables_from next (gate.And parts ∷ gates) = ap suc (length-variables_from (next + 1) gates)
-length-variables_from next (gate.Or parts ∷ gates) = ap suc (length-variables_from (next + 1) gates)
-length-variables_from next (gate.Not part ∷ gates) = ap suc (length-variables_from (next + 1) gates)
-length-variables_from next (gate.Ite condition a b ∷ gates) = ap suc (length-variables_from (next + 1) gates)
-
+-- ---- inputs
 -- an input's variable has its number
 input_variable : (next : ℕ) (gates : List Gate) (place number : ℕ) (d : Gate) → place < length gates → get_or gates place d ≡ gate.Input number → number_at (variables_from next gates) place ≡ number
 input_variable next [] place number d within is = absurd (omega arith)
-input_variable next (gate.Input other ∷ gates) zero number d within is = numbers is
-  where
-    number_in : Gate → ℕ
-    number_in (gate.Input n) = n
-    number_in g = 0
-
-    numbers : {n m : ℕ} → gate.Input n ≡ gate.Input m → n ≡ m
-    numbers e = ap number_in e
-input_variable next (gate.And parts ∷ gates) zero number d within is = absurd (apart is)
-  where
-    apart : gate.And parts ≡ gate.Input number → ⊥
-    apart e = false≢true (ap is_input e)
-input_variable next (gate.Or parts ∷ gates) zero number d within is = absurd (false≢true (ap is_input is))
-input_variable next (gate.Not part ∷ gates) zero number d within is = absurd (false≢true (ap is_input is))
-input_variable next (gate.Ite condition a b ∷ gates) zero number d within is = absurd (false≢true (ap is_input is))
+input_variable next (gate.Input other ∷ gates) zero number d within is = cc
+input_variable next (g ∷ gates) zero number d within is = absurd (false≢true (ap is_input is))
 input_variable next (gate.Input other ∷ gates) (suc place) number d within is = input_variable next gates place number d (omega (arith, within)) is
-input_variable next (gate.And parts ∷ gates) (suc place) number d within is = input_variable (next + 1) gates place number d (omega (arith, within)) is
-input_variable next (gate.Or parts ∷ gates) (suc place) number d within is = input_variable (next + 1) gates place number d (omega (arith, within)) is
-input_variable next (gate.Not part ∷ gates) (suc place) number d within is = input_variable (next + 1) gates place number d (omega (arith, within)) is
-input_variable next (gate.Ite condition a b ∷ gates) (suc place) number d within is = input_variable (next + 1) gates place number d (omega (arith, within)) is
+input_variable next (g ∷ gates) (suc place) number d within is = input_variable (next + 1) gates place number d (omega (arith, within)) is
 
 -- an input's number is below how many there are
-input_below : (gates : List Gate) (place number : ℕ) (d : Gate) → IsCircuit gates → place < length gates → get_or gates place d ≡ gate.Input number → number < input_count gates
-input_below gates place number d circuit within is =
-    let at : number ≡ input_count (take place gates) = subst (IsNumbered (input_count (take place gates))) is (circuit place d within).number in
-    let split = ap input_count (sym (take-append-drop (place + 1) gates)) ∙ input_count-append (take (place + 1) gates) (drop (place + 1) gates) in
-    let front = ap input_count (take_more gates place d within) ∙ input_count-append (take place gates) (get_or gates place d ∷ []) in
-    let one : input_count (get_or gates place d ∷ []) ≡ 1 = ap (λ g. input_count (g ∷ [])) is in
-    omega (arith, at, split, front, one)
+input_number : (gates : List Gate) (place number : ℕ) (d : Gate) → IsCircuit gates → place < length gates → get_or gates place d ≡ gate.Input number → number < input_count gates
+input_number gates place number d circuit within is = subst (IsInputBelow (input_count gates)) is (input_below gates circuit place d within)
 
 -- ---- the clauses of all gates are those of each
 each_holds : (w : List Bool) (all mine : List ℕ) (gates : List Gate) → length mine ≡ length gates → all_hold w (clauses_of all mine gates) ≡ true →
@@ -114,19 +57,11 @@ abbrev nodes_of : List Gate → List Bool → List Bool
 nodes_of gates w = map (value_at w) (variables gates)
 
 length-nodes_of : (gates : List Gate) (w : List Bool) → length (nodes_of gates w) ≡ length gates
-length-nodes_of gates w = length-map (variables gates) (value_at w) ∙ length-variables_from (input_count gates) gates
+length-nodes_of gates w = length-map (variables gates) (value_at w) ∙ variables_count gates
 
 parts_below : (gates : List Gate) (place : ℕ) (d : Gate) → IsCircuit gates → place < length gates → AllByRecursion (λ part. part < place) (parts_of (get_or gates place d))
 parts_below gates place d circuit within =
     subst (λ n. AllByRecursion (λ part. part < n) (parts_of (get_or gates place d))) (length-take-le place gates (omega (arith, within))) (circuit place d within).parts
-
-below_more : (m n : ℕ) (parts : List ℕ) → m ≤ n → AllByRecursion (λ part. part < m) parts → AllByRecursion (λ part. part < n) parts
-below_more m n [] le below = tt
-below_more m n (part ∷ parts) le below = (omega (arith, le, below.0), below_more m n parts le below.1)
-
-map_below : (P : ℕ → Type 0) (n : ℕ) → ((k : ℕ) → k < n → P k) → (parts : List ℕ) → AllByRecursion (λ k. k < n) parts → AllByRecursion P parts
-map_below P n each [] below = tt
-map_below P n each (part ∷ parts) below = (each part below.0, map_below P n each parts below.1)
 
 -- the values of nodes that are each the value of its gate
 abbrev IsEach : List Gate → List Bool → List Bool → Type 0
@@ -149,47 +84,44 @@ first_same gates given vs d circuit is (suc n) few place within =
           let here : place ≡ n = omega (arith, ge, within) in
           let inside : place < length gates = omega (arith, here, few) in
           let g : Gate = get_or gates place d in
-          let parts = map_below (λ k. value_at vs k ≡ value_at (values gates given) k) place (λ k lt. first_same gates given vs d circuit is n (omega (arith, few)) k (omega (arith, lt, here))) (parts_of g) (parts_below gates place d circuit inside) in
+          let parts = all_below (λ k. value_at vs k ≡ value_at (values gates given) k) place (λ k lt. first_same gates given vs d circuit is n (omega (arith, few)) k (omega (arith, lt, here))) (parts_of g) (parts_below gates place d circuit inside) in
           is place d inside ∙ gate_alike given vs (values gates given) g parts ∙ sym (own_value gates given place d circuit inside)
     ]
 
 each_is_values : (gates : List Gate) (given vs : List Bool) → IsCircuit gates → length vs ≡ length gates → IsEach gates given vs → vs ≡ values gates given
 each_is_values gates given vs circuit long is =
-    list_same vs (values gates given) (long ∙ sym (length-values gates given)) (λ place within. first_same gates given vs (gate.And []) circuit is (length gates) (omega arith) place (omega (arith, within, long)))
+    ext_get_or false vs (values gates given) (long ∙ sym (length-values gates given)) (λ place within. first_same gates given vs (gate.And []) circuit is (length gates) (omega arith) place (omega (arith, within, long)))
 
 is_input_or : (g : Gate) → ((number : ℕ) × (g ≡ gate.Input number)) ⊎ (is_input g ≡ false)
 is_input_or (gate.Input number) = inl (number, refl)
-is_input_or (gate.And parts) = inr refl
-is_input_or (gate.Or parts) = inr refl
-is_input_or (gate.Not part) = inr refl
-is_input_or (gate.Ite condition a b) = inr refl
+is_input_or g = inr refl
 
 -- values with which the clauses hold
 held_each : (gates : List Gate) (w : List Bool) → IsCircuit gates → length w ≡ length gates → all_hold w (value_clauses gates) ≡ true → IsEach gates (inputs_of gates w) (nodes_of gates w)
 held_each gates w circuit long holds place d within =
     let g : Gate = get_or gates place d in
-    let long_variables = length-variables_from (input_count gates) gates in
-    let at = at_place w (variables gates) place (omega (arith, within, long_variables)) in
+    let long_variables = variables_count gates in
+    let at = at_map w (variables gates) place (omega (arith, within, long_variables)) in
     elim (is_input_or g) [
       | inl input ↦
-          let below = input_below gates place input.0 d circuit within input.1 in
+          let below = input_number gates place input.0 d circuit within input.1 in
           let mine = input_variable (input_count gates) gates place input.0 d within input.1 in
           sym at ∙ ap (value_at w) mine ∙ sym (get_or-take (input_count gates) w input.0 false below)
           ∙ ap (gate_value (inputs_of gates w) (nodes_of gates w)) (sym input.1)
       | inr other ↦
           let one = each_holds w (variables gates) (variables gates) gates long_variables holds place d within in
           let same_value = same_is (value_at w (number_at (variables gates) place)) (gate_value [] w (moved (variables gates) g)) (sym (gate_holds w (number_at (variables gates) place) (moved (variables gates) g) (moved_other (variables gates) g other)) ∙ one) in
-          let parts = below_more place (length (variables gates)) (parts_of g) (omega (arith, within, long_variables)) (parts_below gates place d circuit within) in
+          let parts = below-weaker place (length (variables gates)) (parts_of g) (omega (arith, within, long_variables)) (parts_below gates place d circuit within) in
           sym at ∙ same_value ∙ moved_value (inputs_of gates w) w (variables gates) g other parts
     ]
 
 each_held : (gates : List Gate) (given w : List Bool) → IsCircuit gates → nodes_of gates w ≡ values gates given → all_hold w (value_clauses gates) ≡ true
 each_held gates given w circuit are =
-    let long_variables = length-variables_from (input_count gates) gates in
+    let long_variables = variables_count gates in
     all_of_each w (variables gates) (variables gates) gates long_variables (λ place d within.
     let g : Gate = get_or gates place d in
-    let at = at_place w (variables gates) place (omega (arith, within, long_variables)) in
-    one (is_input_or g) (number_at (variables gates) place) (below_more place (length (variables gates)) (parts_of g) (omega (arith, within, long_variables)) (parts_below gates place d circuit within)) (at ∙ ap (λ vs. value_at vs place) are ∙ own_value gates given place d circuit within))
+    let at = at_map w (variables gates) place (omega (arith, within, long_variables)) in
+    one (is_input_or g) (number_at (variables gates) place) (below-weaker place (length (variables gates)) (parts_of g) (omega (arith, within, long_variables)) (parts_below gates place d circuit within)) (at ∙ ap (λ vs. value_at vs place) are ∙ own_value gates given place d circuit within))
   where
     one : {g : Gate} → ((number : ℕ) × (g ≡ gate.Input number)) ⊎ (is_input g ≡ false) → (variable : ℕ) → AllByRecursion (λ part. part < length (variables gates)) (parts_of g) → value_at w variable ≡ gate_value given (values gates given) g → all_hold w (gate_clauses variable (moved (variables gates) g)) ≡ true
     one {g} (inl input) variable parts is = ap (λ x. all_hold w (gate_clauses variable (moved (variables gates) x))) input.1
@@ -209,50 +141,21 @@ back : (gates : List Gate) (front rest : List Bool) → length rest ≡ others g
 back [] front [] long = refl
 back [] front (r ∷ rest) long = absurd (omega (arith, long))
 back (gate.Input number ∷ gates) front rest long = back gates front rest long
-back (gate.And parts ∷ gates) front [] long = absurd (omega (arith, long))
-back (gate.Or parts ∷ gates) front [] long = absurd (omega (arith, long))
-back (gate.Not part ∷ gates) front [] long = absurd (omega (arith, long))
-back (gate.Ite condition a b ∷ gates) front [] long = absurd (omega (arith, long))
-back (gate.And parts ∷ gates) front (r ∷ rest) long = back_one gates front r rest (back gates (front ++ r ∷ []) rest (omega (arith, long)))
-back (gate.Or parts ∷ gates) front (r ∷ rest) long = back_one gates front r rest (back gates (front ++ r ∷ []) rest (omega (arith, long)))
-back (gate.Not part ∷ gates) front (r ∷ rest) long = back_one gates front r rest (back gates (front ++ r ∷ []) rest (omega (arith, long)))
-back (gate.Ite condition a b ∷ gates) front (r ∷ rest) long = back_one gates front r rest (back gates (front ++ r ∷ []) rest (omega (arith, long)))
+back (g ∷ gates) front [] long = absurd (omega (arith, long))
+back (g ∷ gates) front (r ∷ rest) long = back_one gates front r rest (back gates (front ++ r ∷ []) rest (omega (arith, long)))
 
 -- ---- and from the values of nodes to their completion
-abbrev Agrees : List Bool → List Gate → List Bool → Type 0
-Agrees front [] vs = Unit {0}
-Agrees front (g ∷ gates) [] = Unit {0}
-Agrees front (gate.Input number ∷ gates) (v ∷ vs) = ((number < length front) × (value_at front number ≡ v)) × Agrees front gates vs
-Agrees front (gate.And parts ∷ gates) (v ∷ vs) = Agrees front gates vs
-Agrees front (gate.Or parts ∷ gates) (v ∷ vs) = Agrees front gates vs
-Agrees front (gate.Not part ∷ gates) (v ∷ vs) = Agrees front gates vs
-Agrees front (gate.Ite condition a b ∷ gates) (v ∷ vs) = Agrees front gates vs
+-- the values in front are those of the inputs, each at its number
+abbrev HasInputs : List Bool → List Gate → List Bool → Type 0
+HasInputs front gates vs = (place number : ℕ) (d : Gate) → place < length gates → get_or gates place d ≡ gate.Input number → (number < length front) × (value_at front number ≡ value_at vs place)
 
-agrees_more : (front more : List Bool) (gates : List Gate) (vs : List Bool) → Agrees front gates vs → Agrees (front ++ more) gates vs
-agrees_more front more [] vs agrees = tt
-agrees_more front more (g ∷ gates) [] agrees = tt
-agrees_more front more (gate.Input number ∷ gates) (v ∷ vs) agrees =
-    ((omega (arith, agrees.0.0, length-append front more), get_or_append_left front more false number agrees.0.0 ∙ agrees.0.1), agrees_more front more gates vs agrees.1)
-agrees_more front more (gate.And parts ∷ gates) (v ∷ vs) agrees = agrees_more front more gates vs agrees
-agrees_more front more (gate.Or parts ∷ gates) (v ∷ vs) agrees = agrees_more front more gates vs agrees
-agrees_more front more (gate.Not part ∷ gates) (v ∷ vs) agrees = agrees_more front more gates vs agrees
-agrees_more front more (gate.Ite condition a b ∷ gates) (v ∷ vs) agrees = agrees_more front more gates vs agrees
+inputs_more : (front more : List Bool) (gates : List Gate) (vs : List Bool) → HasInputs front gates vs → HasInputs (front ++ more) gates vs
+inputs_more front more gates vs has place number d within is =
+    let one = has place number d within is in
+    (omega (arith, one.0, length-append front more), get_or_append_left front more false number one.0 ∙ one.1)
 
-abbrev AgreesAt : List Bool → List Gate → List Bool → Type 0
-AgreesAt front gates vs = (place number : ℕ) (d : Gate) → place < length gates → get_or gates place d ≡ gate.Input number → (number < length front) × (value_at front number ≡ value_at vs place)
-
-agrees_behind : (front : List Bool) (g : Gate) (gates : List Gate) (v : Bool) (vs : List Bool) → AgreesAt front (g ∷ gates) (v ∷ vs) → AgreesAt front gates vs
-agrees_behind front g gates v vs each place number d within is = each (suc place) number d (omega (arith, within)) is
-
-agrees_of : (front : List Bool) (gates : List Gate) (vs : List Bool) → AgreesAt front gates vs → Agrees front gates vs
-agrees_of front [] vs each = tt
-agrees_of front (g ∷ gates) [] each = tt
-agrees_of front (gate.Input number ∷ gates) (v ∷ vs) each =
-    (each 0 number (gate.Input number) (omega arith) refl, agrees_of front gates vs (agrees_behind front (gate.Input number) gates v vs each))
-agrees_of front (gate.And parts ∷ gates) (v ∷ vs) each = agrees_of front gates vs (agrees_behind front (gate.And parts) gates v vs each)
-agrees_of front (gate.Or parts ∷ gates) (v ∷ vs) each = agrees_of front gates vs (agrees_behind front (gate.Or parts) gates v vs each)
-agrees_of front (gate.Not part ∷ gates) (v ∷ vs) each = agrees_of front gates vs (agrees_behind front (gate.Not part) gates v vs each)
-agrees_of front (gate.Ite condition a b ∷ gates) (v ∷ vs) each = agrees_of front gates vs (agrees_behind front (gate.Ite condition a b) gates v vs each)
+inputs_behind : (front : List Bool) (g : Gate) (gates : List Gate) (v : Bool) (vs : List Bool) → HasInputs front (g ∷ gates) (v ∷ vs) → HasInputs front gates vs
+inputs_behind front g gates v vs has place number d within is = has (suc place) number d (omega (arith, within)) is
 
 -- one value more, behind those in front
 forth_one : (gates : List Gate) (front : List Bool) (v : Bool) (vs : List Bool) → map (value_at ((front ++ v ∷ []) ++ other_values gates vs)) (variables_from (length (front ++ v ∷ [])) gates) ≡ vs →
@@ -261,30 +164,22 @@ forth_one gates front v vs ih =
     let after = rw (append_assoc front (v ∷ []) (other_values gates vs), length_push front v) at ih in
     ap₂ ◌∷◌ (get_or-append_seam front v (other_values gates vs) false) after
 
-forth : (gates : List Gate) (front vs : List Bool) → length vs ≡ length gates → Agrees front gates vs → map (value_at (front ++ other_values gates vs)) (variables_from (length front) gates) ≡ vs
-forth [] front [] long agrees = refl
-forth [] front (v ∷ vs) long agrees = absurd (omega (arith, long))
-forth (g ∷ gates) front [] long agrees = absurd (omega (arith, long))
-forth (gate.Input number ∷ gates) front (v ∷ vs) long agrees =
-    ap₂ ◌∷◌ (get_or_append_left front (other_values gates vs) false number agrees.0.0 ∙ agrees.0.1) (forth gates front vs (omega (arith, long)) agrees.1)
-forth (gate.And parts ∷ gates) front (v ∷ vs) long agrees =
-    forth_one gates front v vs (forth gates (front ++ v ∷ []) vs (omega (arith, long)) (agrees_more front (v ∷ []) gates vs agrees))
-forth (gate.Or parts ∷ gates) front (v ∷ vs) long agrees =
-    forth_one gates front v vs (forth gates (front ++ v ∷ []) vs (omega (arith, long)) (agrees_more front (v ∷ []) gates vs agrees))
-forth (gate.Not part ∷ gates) front (v ∷ vs) long agrees =
-    forth_one gates front v vs (forth gates (front ++ v ∷ []) vs (omega (arith, long)) (agrees_more front (v ∷ []) gates vs agrees))
-forth (gate.Ite condition a b ∷ gates) front (v ∷ vs) long agrees =
-    forth_one gates front v vs (forth gates (front ++ v ∷ []) vs (omega (arith, long)) (agrees_more front (v ∷ []) gates vs agrees))
+forth : (gates : List Gate) (front vs : List Bool) → length vs ≡ length gates → HasInputs front gates vs → map (value_at (front ++ other_values gates vs)) (variables_from (length front) gates) ≡ vs
+forth [] front [] long has = refl
+forth [] front (v ∷ vs) long has = absurd (omega (arith, long))
+forth (g ∷ gates) front [] long has = absurd (omega (arith, long))
+forth (gate.Input number ∷ gates) front (v ∷ vs) long has =
+    let first = has 0 number (gate.Input number) (omega arith) refl in
+    ap₂ ◌∷◌ (get_or_append_left front (other_values gates vs) false number first.0 ∙ first.1) (forth gates front vs (omega (arith, long)) (inputs_behind front (gate.Input number) gates v vs has))
+forth (g ∷ gates) front (v ∷ vs) long has =
+    forth_one gates front v vs (forth gates (front ++ v ∷ []) vs (omega (arith, long)) (inputs_more front (v ∷ []) gates vs (inputs_behind front g gates v vs has)))
 
 length-other_values : (gates : List Gate) (vs : List Bool) → length vs ≡ length gates → length (other_values gates vs) ≡ others gates
 length-other_values [] [] long = refl
 length-other_values [] (v ∷ vs) long = absurd (omega (arith, long))
 length-other_values (g ∷ gates) [] long = absurd (omega (arith, long))
 length-other_values (gate.Input number ∷ gates) (v ∷ vs) long = length-other_values gates vs (omega (arith, long))
-length-other_values (gate.And parts ∷ gates) (v ∷ vs) long = ap suc (length-other_values gates vs (omega (arith, long)))
-length-other_values (gate.Or parts ∷ gates) (v ∷ vs) long = ap suc (length-other_values gates vs (omega (arith, long)))
-length-other_values (gate.Not part ∷ gates) (v ∷ vs) long = ap suc (length-other_values gates vs (omega (arith, long)))
-length-other_values (gate.Ite condition a b ∷ gates) (v ∷ vs) long = ap suc (length-other_values gates vs (omega (arith, long)))
+length-other_values (g ∷ gates) (v ∷ vs) long = ap suc (length-other_values gates vs (omega (arith, long)))
 
 length-completion : (gates : List Gate) (given : List Bool) → length given ≡ input_count gates → length (completion gates given) ≡ length gates
 length-completion gates given long =
@@ -293,9 +188,9 @@ length-completion gates given long =
 completion_nodes : (gates : List Gate) (given : List Bool) → IsCircuit gates → length given ≡ input_count gates → nodes_of gates (completion gates given) ≡ values gates given
 completion_nodes gates given circuit long =
     ap (λ n. map (value_at (completion gates given)) (variables_from n gates)) (sym long)
-    ∙ forth gates given (values gates given) (length-values gates given) (agrees_of given gates (values gates given) (λ place number d within is.
-    let below = input_below gates place number d circuit within is in
-    (omega (arith, below, long), sym (own_value gates given place d circuit within ∙ ap (gate_value given (values gates given)) is))))
+    ∙ forth gates given (values gates given) (length-values gates given) (λ place number d within is.
+    let below = input_number gates place number d circuit within is in
+    (omega (arith, below, long), sym (own_value gates given place d circuit within ∙ ap (gate_value given (values gates given)) is)))
 
 -- ---- the laws
 length-inputs_of : (gates : List Gate) (w : List Bool) → length w ≡ length gates → length (inputs_of gates w) ≡ input_count gates
@@ -322,7 +217,7 @@ one_completion gates circuit w long = (
 )
 
 root_at : (gates : List Gate) (root : ℕ) (w : List Bool) → root < length gates → value_at w (number_at (variables gates) root) ≡ value_at (nodes_of gates w) root
-root_at gates root w within = at_place w (variables gates) root (omega (arith, within, length-variables_from (input_count gates) gates))
+root_at gates root w within = at_map w (variables gates) root (omega (arith, within, variables_count gates))
 
 with_root : (gates : List Gate) (root : ℕ) (w : List Bool) → all_hold w (value_clauses gates ++ root_clause gates root ∷ []) ≡ (all_hold w (value_clauses gates) && ((value_at w (number_at (variables gates) root) || false) && true))
 with_root gates root w = list_all-append (clause_holds w) (value_clauses gates) (root_clause gates root ∷ [])

@@ -136,7 +136,7 @@ gate_alike inputs vs ws (gate.Ite condition a b) same =
     ap (λ t. if t then value_at vs a else value_at vs b) same.0
     ∙ ap₂ (λ t u. if value_at ws condition then t else u) same.1.0 same.1.1.0
 
-all_below : (P : ℕ → Type 0) (n : ℕ) → ((k : ℕ) → k < n → P k) → (nodes : List ℕ) → AllByRecursion (λ k. k < n) nodes → AllByRecursion P nodes
+pub all_below : (P : ℕ → Type 0) (n : ℕ) → ((k : ℕ) → k < n → P k) → (nodes : List ℕ) → AllByRecursion (λ k. k < n) nodes → AllByRecursion P nodes
 all_below P n each [] below = tt
 all_below P n each (node ∷ nodes) below = (each node below.0, all_below P n each nodes below.1)
 
@@ -171,5 +171,3 @@ Grows-push gates g other = record { more = g ∷ []; whole = refl; inputs = inpu
 -- what was before is there where as many gates are kept
 pub Grows-back : (old new : List Gate) (count : ℕ) → Grows old new → count ≡ length old → take count new ≡ old
 Grows-back old new count grows is = rw (is, grows.whole) (take-append-le (length old) old grows.more (omega arith) ∙ take_all (length old) old (omega arith))
-
-pub ruleset growing = (Grows-refl, Grows-trans)

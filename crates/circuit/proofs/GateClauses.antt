@@ -1,7 +1,8 @@
 -- The clauses of a gate hold where its variable has the gate's value.
-use Rattle.std.proofs.Common.{◌≡◌, ℕ, ◌<◌, Bool, true, false, not, ◌&&◌, ◌||◌, List, [], ◌∷◌, length, map, refl, sym, ap, ap₂, ◌∙◌, arith, zero, suc, if◌then◌else◌}
+use Rattle.std.proofs.Common.{◌≡◌, ℕ, ◌<◌, Bool, true, false, not, ◌&&◌, ◌||◌, List, [], ◌∷◌, length, map, refl, sym, ap, ap₂, ◌∙◌, if◌then◌else◌}
 use Rattle.std.specs.List.{list_all, list_any, AllByRecursion}
 use Rattle.std.proofs.lemmas.Bool.{false≢true}
+use Rattle.std.proofs.lemmas.List.{get_or-map}
 use Rattle.std.proofs.lemmas.List.Folds.{list_all-append}
 use Rattle.cnf.specs.Clauses.{all_hold, clause_holds, lit_holds}
 use Rattle.circuit.specs.declared.gate.Gate.{Gate}
@@ -109,10 +110,8 @@ gate_holds values variable (gate.Ite condition a b) other =
     chosen (value_at values variable) (value_at values condition) (value_at values a) (value_at values b)
 
 -- ---- over variables or over nodes, a gate has one value
-at_map : (values : List Bool) (variables : List ℕ) (place : ℕ) → place < length variables → value_at values (number_at variables place) ≡ value_at (map (value_at values) variables) place
-at_map values [] place within = absurd (omega arith)
-at_map values (variable ∷ variables) zero within = refl
-at_map values (variable ∷ variables) (suc place) within = at_map values variables place (omega arith)
+pub at_map : (values : List Bool) (variables : List ℕ) (place : ℕ) → place < length variables → value_at values (number_at variables place) ≡ value_at (map (value_at values) variables) place
+at_map values variables place within = sym (get_or-map (value_at values) variables place 0 false within)
 
 all_moved : (values : List Bool) (variables parts : List ℕ) → AllByRecursion (λ part. part < length variables) parts → list_all (value_at values) (map (number_at variables) parts) ≡ list_all (value_at (map (value_at values) variables)) parts
 all_moved values variables [] within = refl
@@ -133,10 +132,4 @@ moved_value inputs values variables (gate.Ite condition a b) other within =
 
 pub moved_other : (variables : List ℕ) (g : Gate) → is_input g ≡ false → is_input (moved variables g) ≡ false
 moved_other variables (gate.Input number) other = other
-moved_other variables (gate.And parts) other = refl
-moved_other variables (gate.Or parts) other = refl
-moved_other variables (gate.Not part) other = refl
-moved_other variables (gate.Ite condition a b) other = refl
-
-pub at_place : (values : List Bool) (variables : List ℕ) (place : ℕ) → place < length variables → value_at values (number_at variables place) ≡ value_at (map (value_at values) variables) place
-at_place = at_map
+moved_other variables g other = refl

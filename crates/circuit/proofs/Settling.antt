@@ -317,7 +317,7 @@ below_next m n (gate.Ite condition a b) e h = tt
 pub input_below : (gates : List Gate) → IsCircuit gates → (k : ℕ) (d : Gate) → k < length gates → IsInputBelow (input_count gates) (get_or gates k d)
 input_below gates c k d h = below_next (input_count (take k gates)) (input_count gates) (get_or gates k d) (c k d h).number (sum_by_more_le (λ g. cond (is_input g) 1 0) gates k d h)
 
-inputs_below : (gates : List Gate) → IsCircuit gates → AllByRecursion (IsInputBelow (input_count gates)) gates
+pub inputs_below : (gates : List Gate) → IsCircuit gates → AllByRecursion (IsInputBelow (input_count gates)) gates
 inputs_below gates c = recursion_from_All (IsInputBelow (input_count gates)) gates (input_below gates c)
 
 all_known : (gates : List Gate) (chosen : List Bool) → IsCircuit gates → length chosen ≡ input_count gates → AllByRecursion IsKnown (settled gates chosen)

@@ -2,7 +2,7 @@
 use Rattle.std.proofs.Common.{◌≡◌, ℕ, ◌+◌, ◌<◌, ◌≤◌, Bool, false, List, [], ◌∷◌, ◌++◌, length, map, sym, ap, subst, ◌∙◌, inl, inr, arith}
 use Rattle.std.proofs.lemmas.List.{length_push}
 use Rattle.circuit.specs.declared.gate.Gate.{Gate}
-use Rattle.circuit.specs.Value.{value, values, gate_value, is_input, AreNodes, Grows, IsCircuit, IsNext}
+use Rattle.circuit.specs.Value.{value, values, gate_value, is_input, AreNodes, Extends, Grows, IsCircuit, IsNext}
 use Rattle.circuit.specs.Sharing.{Made, made, found_or_added, node_of, with_gate}
 use Rattle.circuit.proofs.Extend.{value_push, value_at_gate, Grows-refl, Grows-trans, Grows-push, Grows-extends, IsCircuit-push, AreNodes-extends, map-extends}
 use Rattle.circuit.proofs.Sharing.{IsFound, found_or_new}
@@ -82,3 +82,17 @@ map_stays old new nodes inputs grows h = map-extends old new (Grows-extends old 
 -- of what a call left
 pub test_at : (gates : List Gate) (m n : Made) (most : ℕ) (f : List Bool → Bool) → m ≡ n → IsTest gates n most f → IsTest gates m most f
 test_at gates m n most f is t = subst (λ made. IsTest gates made most f) (sym is) t
+
+-- what a call says that adds a test, where it has memory
+pub test_answered : (gates new : List Gate) (node : ℕ) (m : Made) (most : ℕ) (f : List Bool → Bool) → made new node ≡ m → IsTest gates m most f → record {
+  made : made new node ≡ m;
+  within : node < length new;
+  value : (inputs : List Bool) → value new inputs node ≡ f inputs;
+  few : length new ≤ length gates + most;
+  grown : Grows gates new;
+  older : Extends gates new;
+  err : Unit {0};
+}
+test_answered gates new node m most f is test =
+    let t = test_at gates (made new node) m most f is test in
+    record { made = is; within = t.within; value = t.value; few = t.few; grown = t.grown; older = Grows-extends gates new t.grown; err = tt }

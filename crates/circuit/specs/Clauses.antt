@@ -51,10 +51,6 @@ junction_clauses v parts negative =
     map (λ part. literal v (not negative) ∷ literal part negative ∷ []) parts
     ++ (literal v negative ∷ map (λ part. literal part (not negative)) parts) ∷ []
 
--- the formula with these clauses behind its own
-abbrev pub with_clauses : Formula → List (List Lit) → Formula
-with_clauses formula more = record { vars = formula.vars; clauses = formula.clauses ++ more }
-
 -- those of these gates, whose variables are `mine`, gate by gate
 abbrev pub clauses_of : List ℕ → List ℕ → List Gate → List (List Lit)
 clauses_of variables mine [] = []

@@ -1,26 +1,24 @@
-ghost use Rattle.std.specs.Prelude.{◌≡◌, ◌≤◌, ◌<◌, ◌+◌, ◌^◌, ◌∷◌, [], Bool, List, length, map, IfOk, OnOk};
+ghost use Rattle.std.specs.Prelude.{◌≡◌, ◌≤◌, ◌<◌, ◌+◌, ◌^◌, ◌∷◌, [], All, Bool, List, length, map, IfOk, OnOk};
 ghost use Rattle.std.specs.List.{AllByRecursion};
 ghost use Rattle.circuit.specs.declared.gate.Gate.{Gate};
 ghost use Rattle.circuit.specs.Value.{IsCircuit, input_count, parts_of};
 ghost use Rattle.circuit.specs.Append.{moved, number_at};
-ghost use Rattle.circuit.specs.Clauses.{circuit_formula, gate_clauses, junction_clauses, no, variables, variables_from, with_clauses, yes};
-ghost use Rattle.circuit.specs.Models.{BeginsLeast, HasModelsOf, HasOneCompletion};
+ghost use Rattle.circuit.specs.Clauses.{circuit_formula, gate_clauses, junction_clauses, no, variables, variables_from, yes};
+ghost use Rattle.cnf.specs.Clauses.{with_clauses};
 
 use crate::NoMemory;
 use crate::circuit::Circuit;
 use crate::gate::{Gate, Node};
 use cnf::{Clause, Cnf, Lit};
-use std::alloc::{AllocError, Global};
+use std::alloc::Global;
 
 /// The clauses of a circuit whose root is to be true. The first variables are its inputs, in order, and then there is
 /// one for each other gate, in order. The clauses make each of these the value of its gate, gate by gate in order; the
-/// last one is the root's literal alone.
+/// last one is the root's literal alone. What their models are, `clauses_are_circuits` says of each circuit.
 pub fn to_cnf(alloc: Global, circuit: &Circuit, root: Node) -> Result<Cnf, NoMemory>
     requires { root < length circuit.now }
     ensures formula { IfOk result (λ formula. formula ≡ circuit_formula circuit.now root) }
-    ensures completion { OnOk result (HasOneCompletion circuit.now) }
-    ensures models { OnOk result (HasModelsOf circuit.now root) }
-    ensures least { OnOk result (BeginsLeast circuit.now root) }
+    ensures circuit { IsCircuit circuit.now }
 {
     let gates = circuit.gates();
     let all = variables(alloc, gates, circuit.inputs())?;
@@ -71,7 +69,9 @@ fn push_gate(
     gate: &Gate,
     variables: &[usize],
 ) -> Result<(), NoMemory>
-    requires { AllByRecursion (λ part. part < length variables.now) (parts_of gate.now) }
+    requires parts { AllByRecursion (λ part. part < length variables.now) (parts_of gate.now) }
+    requires variable { variable < formula.old.vars }
+    requires variables { All (λ other. other < formula.old.vars) variables.now }
     ensures { OnOk result (formula.new
         ≡ with_clauses formula.old (gate_clauses variable (moved variables.now gate.now))) }
 {
@@ -139,6 +139,8 @@ fn push_junction(
     parts: &[usize],
     negative: bool,
 ) -> Result<(), NoMemory>
+    requires variable { variable < formula.old.vars }
+    requires parts { All (λ part. part < formula.old.vars) parts.now }
     ensures { OnOk result (formula.new
         ≡ with_clauses formula.old (junction_clauses variable parts.now negative)) }
 {
@@ -162,6 +164,9 @@ fn push_same_where(
     a: usize,
     b: usize,
 ) -> Result<(), NoMemory>
+    requires unless { unless.var < formula.old.vars }
+    requires a { a < formula.old.vars }
+    requires b { b < formula.old.vars }
     ensures { OnOk result (formula.new ≡ with_clauses formula.old
         ((unless ∷ no a ∷ yes b ∷ []) ∷ (unless ∷ yes a ∷ no b ∷ []) ∷ [])) }
 {
@@ -177,13 +182,10 @@ fn push_same_where(
     )
 }
 
-/// Adds a clause whose variables are all in range, so that it is only refused where memory is wanting.
+/// Adds a clause whose variables are in range.
 fn push(alloc: Global, formula: &mut Cnf, lits: &[Lit]) -> Result<(), NoMemory>
+    requires { AllByRecursion (λ l. l.var < formula.old.vars) lits.now }
     ensures { OnOk result (formula.new ≡ with_clauses formula.old (lits.now ∷ [])) }
 {
-    let clause = Clause::from_lits(alloc, lits)?;
-    match formula.push(clause) {
-        Ok(()) => Ok(()),
-        Err(_) => Err(AllocError),
-    }
+    formula.push_in_range(Clause::from_lits(alloc, lits)?)
 }

@@ -29,15 +29,18 @@ pub fn gates_are_tests()
         ≡ gate_value inputs (values gates inputs) g }
     ensures masked { (gates : List Gate) (inputs : List Bool) (bits : List ℕ) (wanted wildcard : ℕ)
         → IsCircuit gates → AreNodes gates bits
-        → let test = with_masked gates bits wanted wildcard in node_value test.gates inputs test.node
+        → let test = with_masked gates bits wanted wildcard in
+        node_value test.gates inputs test.node
         ≡ agrees (number (map (node_value gates inputs) bits)) wanted wildcard }
     ensures range { (gates : List Gate) (inputs : List Bool) (bits : List ℕ) (lo hi : ℕ)
         → IsCircuit gates → AreNodes gates bits
-        → let test = with_range gates bits lo hi in node_value test.gates inputs test.node
+        → let test = with_range gates bits lo hi in
+        node_value test.gates inputs test.node
         ≡ within lo hi (number (map (node_value gates inputs) bits)) }
     ensures equal { (gates : List Gate) (inputs : List Bool) (a b : List ℕ) → IsCircuit gates
         → AreNodes gates a → AreNodes gates b → length a ≡ length b
-        → let test = with_equal gates a b in node_value test.gates inputs test.node
+        → let test = with_equal gates a b in
+        node_value test.gates inputs test.node
         ≡ (number (map (node_value gates inputs) a) == number (map (node_value gates inputs) b)) }
 {}
 

@@ -1,5 +1,5 @@
 -- What literals and clauses say of values for the variables.
-use Rattle.std.specs.Prelude.{◌≡◌, ℕ, ◌<◌, Bool, true, false, not, List, length, slice_index_or}
+use Rattle.std.specs.Prelude.{◌≡◌, ℕ, ◌<◌, ◌++◌, Bool, true, false, not, List, length, slice_index_or, take}
 use Rattle.std.specs.List.{list_any, list_all, All}
 use Rattle.cnf.specs.declared.lit.Lit.{Lit}
 
@@ -28,10 +28,18 @@ pub record Formula : Type 0 where
   pub vars : ℕ
   pub clauses : List (List Lit)
 
--- a value for each variable, with which each clause holds
+-- an assignment: one value a variable, and no clause without a true literal
 pub record IsModel (vars : ℕ) (clauses : List (List Lit)) (values : List Bool) : Type 0 where
   pub count : length values ≡ vars
   pub holds : all_hold values clauses ≡ true
+
+-- the clauses with these behind them
+abbrev pub with_clauses : Formula → List (List Lit) → Formula
+with_clauses formula more = record { vars = formula.vars; clauses = formula.clauses ++ more }
+
+-- the first so many of the clauses
+abbrev pub first_clauses : ℕ → Formula → Formula
+first_clauses count formula = record { vars = formula.vars; clauses = take count formula.clauses }
 
 -- each model of the clauses makes this one hold
 abbrev pub Follows : ℕ → List (List Lit) → List Lit → Type 0

@@ -23,7 +23,16 @@ impl Model for Clause {
     ghost view = { λ c. c.lits.items };
 }
 
+/// Whether each variable of the literals is below `vars`.
+pub fn are_in_range(vars: usize, lits: &[Lit]) -> bool
+    ensures yes { OnTrue result (IsInRange vars lits.now) }
+    ensures no { IsInRange vars lits.now → result ≡ true }
+{
+    lits.iter().all(|lit| lit.var < vars)
+}
+
 impl Clause {
+    /// The clause of these literals, in this order.
     pub fn from_lits(alloc: Global, lits: &[Lit]) -> Result<Clause, NoMemory>
         ensures { IfOk result (λ clause. clause ≡ lits.now) }
     {
@@ -45,15 +54,7 @@ impl Clause {
         self.lits.as_slice()
     }
 
-    /// Whether each variable is among the first `vars`.
-    pub fn is_in_range(&self, vars: usize) -> bool
-        ensures yes { OnTrue result (IsInRange vars self.now) }
-        ensures no { IsInRange vars self.now → result ≡ true }
-    {
-        self.lits().iter().all(|lit| lit.var < vars)
-    }
-
-    /// Whether one of the literals is true.
+    /// Whether one of its literals is true. There is a value for each of its variables.
     pub fn holds(&self, values: &[bool]) -> bool
         requires { IsInRange (length values.now) self.now }
         ensures { result ≡ clause_holds values.now self.now }

@@ -1,9 +1,9 @@
-ghost use Rattle.std.specs.Prelude.{◌≡◌, ◌++◌, ◌∷◌, [], All, IfOk, OnOk, OnErr, IfErr, length, take};
-ghost use Rattle.cnf.specs.Clauses.{IsInRange, all_hold};
+ghost use Rattle.std.specs.Prelude.{◌≡◌, ◌∷◌, [], All, IfOk, OnOk, OnErr, length};
+ghost use Rattle.cnf.specs.Clauses.{IsInRange, all_hold, first_clauses, with_clauses};
 ghost use Rattle.cnf.specs.declared.fault.CnfFault.TheVariants as fault;
 
 use crate::NoMemory;
-use crate::clause::Clause;
+use crate::clause::{Clause, are_in_range};
 use crate::fault::CnfFault;
 use std::alloc::Global;
 use std::marker::Model;
@@ -55,36 +55,46 @@ impl Cnf {
 
     /// Adds a clause at the end. It is refused exactly where one of its variables is out of range.
     pub fn push(&mut self, clause: Clause) -> Result<(), CnfFault>
-        ensures added { OnOk result (self.new ≡ record {
-          vars = self.old.vars;
-          clauses = self.old.clauses ++ clause ∷ [];
-        }) }
+        ensures added { OnOk result (self.new ≡ with_clauses self.old (clause ∷ [])) }
         ensures in_range { OnOk result (IsInRange self.old.vars clause) }
-        ensures fault { IfErr result (λ e. e ≡ fault.VarRange → IsInRange self.old.vars clause → ⊥) }
+        ensures range { result ≡ Err fault.VarRange → IsInRange self.old.vars clause → ⊥ }
+        ensures memory { result ≡ Err fault.NoMemory → IsInRange self.old.vars clause }
         ensures err { OnErr result (self.new ≡ self.old) }
     {
-        if !clause.is_in_range(self.vars) {
+        if !are_in_range(self.vars, clause.lits()) {
             return Err(CnfFault::VarRange);
         }
-        if self.clauses.push(clause).is_err() {
+        if self.push_in_range(clause).is_err() {
             return Err(CnfFault::NoMemory);
         }
         Ok(())
     }
 
-    /// Leaves the first clauses, and takes the others away.
+    /// The same for a clause whose variables are known to be in range.
+    pub fn push_in_range(&mut self, clause: Clause) -> Result<(), NoMemory>
+        requires { IsInRange self.old.vars clause }
+        ensures added { OnOk result (self.new ≡ with_clauses self.old (clause ∷ [])) }
+        ensures err { OnErr result (self.new ≡ self.old) }
+    {
+        self.clauses.push(clause)?;
+        Ok(())
+    }
+
+    /// Leaves the first `count` clauses, or all where there are fewer.
     pub fn truncate(&mut self, count: usize)
-        ensures { self.new ≡ record { vars = self.old.vars; clauses = take count self.old.clauses } }
+        ensures { self.new ≡ first_clauses count self.old }
     {
         self.clauses.truncate(count);
     }
 
+    /// How many variables there are.
     pub fn vars(&self) -> usize
         ensures { result ≡ self.now.vars }
     {
         self.vars
     }
 
+    /// The clauses, in the order in which they were added.
     pub fn clauses(&self) -> &[Clause]
         ensures clauses { result.now ≡ self.now.clauses }
         ensures in_range { All (IsInRange self.now.vars) self.now.clauses }
@@ -92,7 +102,7 @@ impl Cnf {
         self.clauses.as_slice()
     }
 
-    /// Whether each clause holds. There is a value for each variable.
+    /// Whether each clause holds of these values, one for each variable.
     pub fn holds(&self, values: &[bool]) -> bool
         requires { length values.now ≡ self.now.vars }
         ensures { result ≡ all_hold values.now self.now.clauses }

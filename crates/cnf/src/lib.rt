@@ -10,7 +10,7 @@ mod fault;
 mod formula;
 mod lit;
 
-pub use clause::Clause;
+pub use clause::{Clause, are_in_range};
 pub use fault::CnfFault;
 pub use formula::Cnf;
 pub use lit::Lit;

@@ -34,7 +34,7 @@ impl Lit {
         if self.negative { !value } else { value }
     }
 
-    /// Whether the literal is true.
+    /// Whether it is true where the variables have these values. Its own has one.
     #[inline]
     pub fn holds(self, values: &[bool]) -> bool
         requires { self.var < length values.now }

@@ -6,7 +6,7 @@ use Rattle.cnf.specs.Clauses.{signed, lit_holds}
 use Rattle.proof_check.specs.Values.{value_of, with_true, with_false}
 
 -- where the table has a value it is this one
-pub record Agrees (values : List Bool) (table : List (Option Bool)) : Type 0 where
+pub record IsWithin (values : List Bool) (table : List (Option Bool)) : Type 0 where
   pub same : (var : ℕ) (b : Bool) → get_or table var None ≡ Some b → get_or values var false ≡ b
 
 blank_reads : (n var : ℕ) (b : Bool) → get_or (replicate n None) var None ≡ Some b → ⊥
@@ -14,14 +14,14 @@ blank_reads zero var b e = cc
 blank_reads (suc n) zero b e = cc
 blank_reads (suc n) (suc var) b e = blank_reads n var b e
 
-pub Agrees-blank : (values : List Bool) (n : ℕ) → Agrees values (replicate n None)
-Agrees-blank values n = record { same = λ var b e. absurd (blank_reads n var b e) }
+pub IsWithin-blank : (values : List Bool) (n : ℕ) → IsWithin values (replicate n None)
+IsWithin-blank values n = record { same = λ var b e. absurd (blank_reads n var b e) }
 
 signed_reads : (negative : Bool) (o : Option Bool) (v b : Bool) → ((x : Bool) → o ≡ Some x → v ≡ x) → option_map (signed negative) o ≡ Some b → signed negative v ≡ b
 signed_reads negative None v b h e = absurd (cc)
 signed_reads negative (Some x) v b h e = ap (signed negative) (h x refl) ∙ (cc)
 
-pub lit_holds_by : (values : List Bool) (table : List (Option Bool)) (l : Lit) (b : Bool) → Agrees values table → value_of table l ≡ Some b → lit_holds values l ≡ b
+pub lit_holds_by : (values : List Bool) (table : List (Option Bool)) (l : Lit) (b : Bool) → IsWithin values table → value_of table l ≡ Some b → lit_holds values l ≡ b
 lit_holds_by values table l b h e =
     signed_reads l.negative (get_or table l.var None) (get_or values l.var false) b (h.same l.var) e
 
@@ -33,8 +33,8 @@ reads_set (x ∷ xs) (suc i) zero v b e = inr e
 reads_set (x ∷ xs) (suc i) (suc var) v b e =
     elim (reads_set xs i var v b e) [ inl w ↦ inl (ap suc w.0, w.1) | inr w ↦ inr w ]
 
-Agrees-set : (values : List Bool) (table : List (Option Bool)) (i : ℕ) (v : Bool) → Agrees values table → get_or values i false ≡ v → Agrees values (set table i (Some v))
-Agrees-set values table i v h is = record {
+IsWithin-set : (values : List Bool) (table : List (Option Bool)) (i : ℕ) (v : Bool) → IsWithin values table → get_or values i false ≡ v → IsWithin values (set table i (Some v))
+IsWithin-set values table i v h is = record {
   same = λ var b e. elim (reads_set table i var v b e) [
     | inl w ↦ ap (λ k. get_or values k false) w.0 ∙ is ∙ w.1
     | inr w ↦ h.same var b w
@@ -53,10 +53,10 @@ signed-false true false e = absurd (cc)
 signed-false false true e = absurd (cc)
 signed-false false false e = refl
 
-pub Agrees-with_true : (values : List Bool) (table : List (Option Bool)) (l : Lit) → Agrees values table → lit_holds values l ≡ true → Agrees values (with_true table l)
-Agrees-with_true values table l h e =
-    Agrees-set values table l.var (not l.negative) h (signed-true l.negative (get_or values l.var false) e)
+pub IsWithin-with_true : (values : List Bool) (table : List (Option Bool)) (l : Lit) → IsWithin values table → lit_holds values l ≡ true → IsWithin values (with_true table l)
+IsWithin-with_true values table l h e =
+    IsWithin-set values table l.var (not l.negative) h (signed-true l.negative (get_or values l.var false) e)
 
-pub Agrees-with_false : (values : List Bool) (table : List (Option Bool)) (l : Lit) → Agrees values table → lit_holds values l ≡ false → Agrees values (with_false table l)
-Agrees-with_false values table l h e =
-    Agrees-set values table l.var l.negative h (signed-false l.negative (get_or values l.var false) e)
+pub IsWithin-with_false : (values : List Bool) (table : List (Option Bool)) (l : Lit) → IsWithin values table → lit_holds values l ≡ false → IsWithin values (with_false table l)
+IsWithin-with_false values table l h e =
+    IsWithin-set values table l.var l.negative h (signed-false l.negative (get_or values l.var false) e)

@@ -14,7 +14,7 @@ use Rattle.proof_check.specs.Derivations.{by_option, live_at, fault_by, is_empty
 use Rattle.proof_check.specs.Inside.Each.{Each}
 use Rattle.proof_check.specs.Refutation.{RefutedHaveNoModel}
 use Rattle.proof_check.proofs.Living.{Each-cons, Each-tail, Each-hinted, Each-push, Each-without_all}
-use Rattle.proof_check.proofs.Agreement.{Agrees, Agrees-blank, Agrees-with_true, Agrees-with_false, lit_holds_by}
+use Rattle.proof_check.proofs.Agreement.{IsWithin, IsWithin-blank, IsWithin-with_true, IsWithin-with_false, lit_holds_by}
 
 -- each clause that there is holds
 abbrev pub LiveHold : List Bool → List (Option (List Lit)) → Type 0
@@ -23,7 +23,7 @@ LiveHold values live = Each (λ lits. clause_holds values lits ≡ true) live
 -- ONE CLAUSE
 
 -- a literal that is false makes no difference
-remaining_holds : (values : List Bool) (t : List (Option Bool)) (lits : List Lit) → Agrees values t → clause_holds values (remaining t lits) ≡ clause_holds values lits
+remaining_holds : (values : List Bool) (t : List (Option Bool)) (lits : List Lit) → IsWithin values t → clause_holds values (remaining t lits) ≡ clause_holds values lits
 remaining_holds values t [] h = refl
 remaining_holds values t (l ∷ ls) h =
     let rest = remaining_holds values t ls h in
@@ -43,7 +43,7 @@ conflict_has_none t (l ∷ ls) e =
       | Some b ↦ elim b as (λ b. by_value (Some b) (if list_all (same_lit l) ls then outcome.Unit l else outcome.Stuck) outcome.Stuck outcome.Stuck ≡ outcome.Conflict → l ∷ ls ≡ []) [ true ↦ λ x. absurd (cc) | false ↦ λ x. absurd (cc) ]
     ] e
 
-pub conflict_fails : (values : List Bool) (t : List (Option Bool)) (lits : List Lit) → Agrees values t → propagates t lits ≡ outcome.Conflict → clause_holds values lits ≡ false
+pub conflict_fails : (values : List Bool) (t : List (Option Bool)) (lits : List Lit) → IsWithin values t → propagates t lits ≡ outcome.Conflict → clause_holds values lits ≡ false
 conflict_fails values t lits h e =
     sym (remaining_holds values t lits h) ∙ ap (clause_holds values) (conflict_has_none t (remaining t lits) e)
 
@@ -85,32 +85,32 @@ unit_is_first values t (l ∷ ls) u e k =
       | Some b ↦ elim b as (λ b. by_value (Some b) (if list_all (same_lit l) ls then outcome.Unit l else outcome.Stuck) outcome.Stuck outcome.Stuck ≡ outcome.Unit u → lit_holds values u ≡ true) [ true ↦ λ x. absurd (cc) | false ↦ λ x. absurd (cc) ]
     ] e
 
-pub unit_holds : (values : List Bool) (t : List (Option Bool)) (lits : List Lit) (l : Lit) → Agrees values t → propagates t lits ≡ outcome.Unit l → clause_holds values lits ≡ true → lit_holds values l ≡ true
+pub unit_holds : (values : List Bool) (t : List (Option Bool)) (lits : List Lit) (l : Lit) → IsWithin values t → propagates t lits ≡ outcome.Unit l → clause_holds values lits ≡ true → lit_holds values l ≡ true
 unit_holds values t lits l h e k =
     unit_is_first values t (remaining t lits) l e (remaining_holds values t lits h ∙ k)
 
 -- ONE STEP
 
-pub assumed_agrees : (values : List Bool) (t u : List (Option Bool)) (lits : List Lit) → Agrees values t → clause_holds values lits ≡ false → assumed t lits ≡ Some u → Agrees values u
-assumed_agrees values t u [] h k e = let same : t ≡ u = cc in subst (Agrees values) same h
+pub assumed_agrees : (values : List Bool) (t u : List (Option Bool)) (lits : List Lit) → IsWithin values t → clause_holds values lits ≡ false → assumed t lits ≡ Some u → IsWithin values u
+assumed_agrees values t u [] h k e = let same : t ≡ u = cc in subst (IsWithin values) same h
 assumed_agrees values t u (l ∷ ls) h k e =
     let both = or_parts (lit_holds values l) (clause_holds values ls) k in
-    elim (value_of t l) as (λ o. by_value o (assumed (with_false t l) ls) (assumed t ls) None ≡ Some u → Agrees values u) [
-      | None ↦ λ x. assumed_agrees values (with_false t l) u ls (Agrees-with_false values t l h both.0) both.1 x
-      | Some b ↦ elim b as (λ b. by_value (Some b) (assumed (with_false t l) ls) (assumed t ls) None ≡ Some u → Agrees values u) [
+    elim (value_of t l) as (λ o. by_value o (assumed (with_false t l) ls) (assumed t ls) None ≡ Some u → IsWithin values u) [
+      | None ↦ λ x. assumed_agrees values (with_false t l) u ls (IsWithin-with_false values t l h both.0) both.1 x
+      | Some b ↦ elim b as (λ b. by_value (Some b) (assumed (with_false t l) ls) (assumed t ls) None ≡ Some u → IsWithin values u) [
         | true ↦ λ x. absurd (cc)
         | false ↦ λ x. assumed_agrees values t u ls h both.1 x
       ]
     ] e
 
-no_such_hints : (values : List Bool) (t : List (Option Bool)) (hinted : List (Option (List Lit))) (place : ℕ) → Agrees values t → LiveHold values hinted → hint_fault t hinted place ≡ None → ⊥
+no_such_hints : (values : List Bool) (t : List (Option Bool)) (hinted : List (Option (List Lit))) (place : ℕ) → IsWithin values t → LiveHold values hinted → hint_fault t hinted place ≡ None → ⊥
 no_such_hints values t [] place h all e = cc
 no_such_hints values t (None ∷ rest) place h all e = cc
 no_such_hints values t (Some lits ∷ rest) place h all e =
     let holds : clause_holds values lits ≡ true = all.at 0 in
     elim (propagates t lits) as (λ o. propagates t lits ≡ o → by_outcome o (behind_conflict rest place) (λ l. hint_fault (with_true t l) rest (place + 1)) (Some place) ≡ None → ⊥) [
       | outcome.Conflict ↦ λ is x. both_ways (clause_holds values lits) (conflict_fails values t lits h is) holds
-      | outcome.Unit l ↦ λ is x. no_such_hints values (with_true t l) rest (place + 1) (Agrees-with_true values t l h (unit_holds values t lits l h is holds)) (Each-tail (λ lits. clause_holds values lits ≡ true) (Some lits) rest all) x
+      | outcome.Unit l ↦ λ is x. no_such_hints values (with_true t l) rest (place + 1) (IsWithin-with_true values t l h (unit_holds values t lits l h is holds)) (Each-tail (λ lits. clause_holds values lits ≡ true) (Some lits) rest all) x
       | outcome.Stuck ↦ λ is x. cc
     ] refl e
 
@@ -121,7 +121,7 @@ step_holds vars hinted lits values e all =
       | true ↦ λ is. refl
       | false ↦ λ is. elim (assumed (replicate vars None) lits) as (λ o. assumed (replicate vars None) lits ≡ o → by_option o (Some 0) (λ t. hint_fault t hinted 1) ≡ None → false ≡ true) [
         | None ↦ λ made x. absurd (cc)
-        | Some t ↦ λ made x. absurd (no_such_hints values t hinted 1 (assumed_agrees values (replicate vars None) t lits (Agrees-blank values vars) is made) all x)
+        | Some t ↦ λ made x. absurd (no_such_hints values t hinted 1 (assumed_agrees values (replicate vars None) t lits (IsWithin-blank values vars) is made) all x)
       ] refl e
     ] refl
 

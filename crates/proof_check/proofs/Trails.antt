@@ -3,20 +3,20 @@ use Rattle.std.proofs.Common.{◌≡◌, ◌<◌, ◌+◌, Option, Some, None, l
 use Rattle.std.specs.List.{All}
 use Rattle.std.proofs.lemmas.List.{set-set, set-get_or, length-set, take_more, take_more_set, take-take, length-replicate}
 use Rattle.std.proofs.lemmas.List.Elements.{All-push, All-take}
-use Rattle.proof_check.specs.Inside.Trail.{released, free_count, IsTrail}
+use Rattle.proof_check.specs.Inside.Trail.{released, unset_count, IsTrail}
 
 released_last : (t : List (Option Bool)) (vars : List ℕ) (var : ℕ) → released t (vars ++ var ∷ []) ≡ released (set t var None) vars
 released_last t [] var = refl
 released_last t (v ∷ vars) var = ap (λ u. set u v None) (released_last t vars var)
 
-one_less : (t : List (Option Bool)) (var : ℕ) (b : Bool) → var < length t → get_or t var None ≡ None → free_count t ≡ 1 + free_count (set t var (Some b))
+one_less : (t : List (Option Bool)) (var : ℕ) (b : Bool) → var < length t → get_or t var None ≡ None → unset_count t ≡ 1 + unset_count (set t var (Some b))
 one_less [] var b within free = absurd (omega arith)
 one_less (None ∷ t) zero b within free = refl
 one_less (Some x ∷ t) zero b within free = absurd (cc)
 one_less (None ∷ t) (suc var) b within free = ap (λ n. 1 + n) (one_less t var b (omega arith) free)
 one_less (Some x ∷ t) (suc var) b within free = one_less t var b (omega arith) free
 
-all_free : (n : ℕ) → free_count (replicate n None) ≡ n
+all_free : (n : ℕ) → unset_count (replicate n None) ≡ n
 all_free zero = refl
 all_free (suc n) = let before = all_free n in omega (arith, before)
 

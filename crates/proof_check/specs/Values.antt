@@ -5,7 +5,7 @@ use Rattle.std.specs.List.{filter}
 use Rattle.cnf.specs.declared.lit.Lit.{Lit}
 use Rattle.cnf.specs.Clauses.{signed}
 
--- a literal's value, where its variable has one
+-- what is known of a literal, by what is known of its variable
 abbrev pub value_of : List (Option Bool) → Lit → Option Bool
 value_of table l = option_map (signed l.negative) (slice_index_or table l.var None)
 
@@ -15,7 +15,7 @@ by_value None free on_false on_true = free
 by_value (Some false) free on_false on_true = on_false
 by_value (Some true) free on_false on_true = on_true
 
--- the table with a literal true, or false
+-- the table in which a literal has become true, and one in which it has become false
 abbrev pub with_true : List (Option Bool) → Lit → List (Option Bool)
 with_true table l = slice_set table l.var (Some (not l.negative))
 

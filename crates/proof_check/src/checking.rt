@@ -8,7 +8,7 @@ use crate::live::LiveClauses;
 use crate::step::step_fault;
 use crate::table::Table;
 use certificates::{Derivation, Item, Numbers, Step};
-use cnf::{Cnf, NoMemory};
+use cnf::{Cnf, NoMemory, are_in_range};
 use std::alloc::Global;
 use std::marker::Model;
 
@@ -82,7 +82,7 @@ impl<'a> Checker<'a> {
         ensures after { OnOk result (self.new ≡ after_item self.old (items.Add step.now)) }
     {
         let number = self.steps + 1;
-        if !step.clause.is_in_range(self.table.len()) {
+        if !are_in_range(self.table.len(), step.clause.lits()) {
             return Err(CheckFault::VarRange { step: number });
         }
         if let Some(place) = step_fault(&mut self.table, &self.live, step) {

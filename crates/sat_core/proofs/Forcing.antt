@@ -9,10 +9,10 @@ use Rattle.cnf.specs.Order.{IsLeast, LexLe}
 use Rattle.proof_check.specs.declared.table.Outcome.TheVariants as outcome
 use Rattle.proof_check.specs.Values.{with_true}
 use Rattle.proof_check.specs.Propagation.{propagates}
-use Rattle.proof_check.proofs.Agreement.{Agrees-with_true, reads_set, signed-true}
+use Rattle.proof_check.proofs.Agreement.{IsWithin-with_true, reads_set, signed-true}
 use Rattle.proof_check.proofs.Sound.{unit_holds}
 use Rattle.sat_core.specs.declared.source.Source.{Source}
-use Rattle.sat_core.specs.Inside.Walk.{Agrees, AgreesBelow, IsForced, HasReason, MayFollow}
+use Rattle.sat_core.specs.Inside.Walk.{HasValues, HasValuesBelow, IsForced, HasReason, MayFollow}
 
 pub forced_by : (formula : Formula) (t : List (Option Bool)) (left l : Lit) (lits : List Lit) → Follows formula.vars formula.clauses lits → propagates t lits ≡ outcome.Unit left → left ≡ l → IsForced formula t l
 forced_by formula t left l lits follows unit same values model agrees =
@@ -21,8 +21,8 @@ forced_by formula t left l lits follows unit same values model agrees =
 -- A model that has the table's values up to the floor, where the last decision is, has them all; and what is true in the
 -- table is true in each model that has the values before it.
 pub record Forces (formula : Formula) (t : List (Option Bool)) (floor : ℕ) : Type 0 where
-  pub all : (values : List Bool) → IsModel formula.vars formula.clauses values → (end : ℕ) → floor ≤ end → AgreesBelow values t end → Agrees values t
-  pub ones : (k : ℕ) → get_or t k None ≡ Some true → (values : List Bool) → IsModel formula.vars formula.clauses values → AgreesBelow values t k → get_or values k false ≡ true
+  pub all : (values : List Bool) → IsModel formula.vars formula.clauses values → (end : ℕ) → floor ≤ end → HasValuesBelow values t end → HasValues values t
+  pub ones : (k : ℕ) → get_or t k None ≡ Some true → (values : List Bool) → IsModel formula.vars formula.clauses values → HasValuesBelow values t k → get_or values k false ≡ true
 
 -- a value that was there is still there when a variable without one gets one
 still_there : (t : List (Option Bool)) (i k : ℕ) (v b : Bool) → get_or t i None ≡ None → get_or t k None ≡ Some b → get_or (set t i (Some v)) k None ≡ Some b
@@ -32,7 +32,7 @@ still_there (x ∷ xs) zero (suc k) v b free is = is
 still_there (x ∷ xs) (suc i) zero v b free is = is
 still_there (x ∷ xs) (suc i) (suc k) v b free is = still_there xs i k v b free is
 
-agrees_before : (values : List Bool) (t : List (Option Bool)) (i : ℕ) (v : Bool) (end : ℕ) → get_or t i None ≡ None → AgreesBelow values (set t i (Some v)) end → AgreesBelow values t end
+agrees_before : (values : List Bool) (t : List (Option Bool)) (i : ℕ) (v : Bool) (end : ℕ) → get_or t i None ≡ None → HasValuesBelow values (set t i (Some v)) end → HasValuesBelow values t end
 agrees_before values t i v end free below k b less is = below k b less (still_there t i k v b free is)
 
 after_decision : (formula : Formula) (t : List (Option Bool)) (floor next i : ℕ) → Forces formula t floor → i < length t → get_or t i None ≡ None → floor ≤ next → i < next → Forces formula (set t i (Some false)) next
@@ -56,11 +56,11 @@ after_forced formula t floor l h free forced low =
     let v : Bool = not l.negative in
     record {
       all = λ values model end reach below.
-          let agrees : Agrees values t = h.all values model end reach (agrees_before values t l.var v end free below) in
-          (Agrees-with_true values t l (record { same = agrees }) (forced values model agrees)).same;
+          let agrees : HasValues values t = h.all values model end reach (agrees_before values t l.var v end free below) in
+          (IsWithin-with_true values t l (record { same = agrees }) (forced values model agrees)).same;
       ones = λ k is values model below. elim (reads_set t l.var k v true is) [
         | inl w ↦
-            let agrees : Agrees values t = h.all values model k (rw w.0 (low (was_false l.negative w.1))) (agrees_before values t l.var v k free below) in
+            let agrees : HasValues values t = h.all values model k (rw w.0 (low (was_false l.negative w.1))) (agrees_before values t l.var v k free below) in
             ap (λ x. get_or values x false) w.0 ∙ signed-true l.negative (get_or values l.var false) (forced values model agrees) ∙ w.1
         | inr w ↦ h.ones k w values model (agrees_before values t l.var v k free below)
       ];

@@ -9,7 +9,7 @@ use Rattle.proof_check.specs.declared.table.Outcome.TheVariants as outcome
 use Rattle.proof_check.specs.Values.{with_true}
 use Rattle.proof_check.specs.Propagation.{assumed, propagates}
 use Rattle.proof_check.specs.Tables.{IsAssumed}
-use Rattle.proof_check.proofs.Agreement.{Agrees, Agrees-blank, Agrees-with_true}
+use Rattle.proof_check.proofs.Agreement.{IsWithin, IsWithin-blank, IsWithin-with_true}
 use Rattle.proof_check.proofs.Sound.{assumed_agrees, conflict_fails, unit_holds}
 use Rattle.sat_core.specs.declared.store.Learned.{Learned}
 use Rattle.sat_core.specs.Inside.Learning.{FollowsFirst, IsLearned}
@@ -58,19 +58,19 @@ given_follows vars given k lits ranges inside e = record {
 -- a model of the first given clauses in which the clause fails has the values of the table
 pub record Refuting (vars : ℕ) (given : List (List Lit)) (needs : ℕ) (lits : List Lit) (table : List (Option Bool)) : Type 0 where
   pub there : needs ≤ length given
-  pub agrees : (values : List Bool) → IsModel vars (take needs given) values → clause_holds values lits ≡ false → Agrees values table
+  pub agrees : (values : List Bool) → IsModel vars (take needs given) values → clause_holds values lits ≡ false → IsWithin values table
 
-all_assumed : (values : List Bool) (t u : List (Option Bool)) (lits : List Lit) → Agrees values t → clause_holds values lits ≡ false → IsAssumed (assumed t lits) true u → Agrees values u
+all_assumed : (values : List Bool) (t u : List (Option Bool)) (lits : List Lit) → IsWithin values t → clause_holds values lits ≡ false → IsAssumed (assumed t lits) true u → IsWithin values u
 all_assumed values t u lits h fails made =
-    elim (assumed t lits) as (λ o. assumed t lits ≡ o → IsAssumed o true u → Agrees values u) [
+    elim (assumed t lits) as (λ o. assumed t lits ≡ o → IsAssumed o true u → IsWithin values u) [
       | None ↦ λ is w. absurd (let wrong : true ≡ false = w in cc)
-      | Some e ↦ λ is w. subst (Agrees values) (sym w.1) (assumed_agrees values t e lits h fails is)
+      | Some e ↦ λ is w. subst (IsWithin values) (sym w.1) (assumed_agrees values t e lits h fails is)
     ] refl made
 
 pub begins : (vars : ℕ) (given : List (List Lit)) (lits : List Lit) (t u : List (Option Bool)) (answer : Bool) → t ≡ replicate vars None → answer ≡ true → IsAssumed (assumed t lits) answer u → Refuting vars given 0 lits u
 begins vars given lits t u answer blank taken made = record {
   there = omega arith;
-  agrees = λ values model fails. all_assumed values t u lits (subst (Agrees values) (sym blank) (Agrees-blank values vars)) fails
+  agrees = λ values model fails. all_assumed values t u lits (subst (IsWithin values) (sym blank) (IsWithin-blank values vars)) fails
       (subst (λ b. IsAssumed (assumed t lits) b u) taken made);
 }
 
@@ -83,7 +83,7 @@ goes_on vars given needs more most lits hinted table l h known a b c unit = reco
   there = c;
   agrees = λ values model fails.
       let agrees = h.agrees values (first_model vars given needs most values a model) fails in
-      Agrees-with_true values table l agrees (unit_holds values table hinted l agrees unit (known.follows values (first_model vars given more most values b model)));
+      IsWithin-with_true values table l agrees (unit_holds values table hinted l agrees unit (known.follows values (first_model vars given more most values b model)));
 }
 
 pub ends : (vars : ℕ) (given : List (List Lit)) (needs more most : ℕ) (lits hinted : List Lit) (table : List (Option Bool)) → Refuting vars given needs lits table → FollowsFirst vars given more hinted

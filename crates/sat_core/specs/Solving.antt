@@ -2,6 +2,7 @@
 use Rattle.std.specs.Prelude.{◌≡◌, ℕ, Bool, true, false, List, [], ◌∷◌, ◌++◌}
 use Rattle.std.specs.List.{list_any}
 use Rattle.cnf.specs.declared.lit.Lit.{Lit}
+use Rattle.cnf.specs.Clauses.{Formula, first_clauses, with_clauses}
 use Rattle.cnf.specs.Order.{IsLeast}
 use Rattle.certificates.specs.declared.derivation.Item.{Item}
 use Rattle.certificates.specs.declared.derivation.Item.TheVariants as item
@@ -9,6 +10,19 @@ use Rattle.certificates.specs.Writable.{IsWritable}
 use Rattle.proof_check.specs.Derivations.{IsAccepted, is_empty}
 use Rattle.sat_core.specs.declared.solved.Solved.{Solved}
 use Rattle.sat_core.specs.declared.solved.Solved.TheVariants as solved
+
+-- what is seen of a solver: its clauses, and how often a plain search stood in for the one that learns
+pub record Standing : Type 0 where
+  pub given : Formula
+  pub fallbacks : ℕ
+
+-- it with these clauses behind its own
+abbrev pub with_given : Standing → List (List Lit) → Standing
+with_given solver more = record { given = with_clauses solver.given more; fallbacks = solver.fallbacks }
+
+-- it with the first so many of its clauses
+abbrev pub with_first : ℕ → Standing → Standing
+with_first count solver = record { given = first_clauses count solver.given; fallbacks = solver.fallbacks }
 
 -- literals that are assumed, as clauses
 abbrev pub units : List Lit → List (List Lit)

@@ -1,12 +1,15 @@
 ghost use Rattle.std.specs.Prelude.{◌≤◌, length};
 
+#[cfg(test)]
+mod watching;
+
 use crate::source::{Source, narrow};
 use crate::walk::Fixed;
 use cnf::{Lit, NoMemory};
 use std::alloc::Global;
 use std::mem;
 
-/// What is known of a literal.
+/// The value of a literal, if its variable has one.
 #[derive(Clone, Copy, Debug, PartialEq, Eq)]
 pub(crate) enum Value {
     Free,
@@ -28,7 +31,7 @@ enum Look {
     Moved(u32),
     /// This other watched literal is true.
     Satisfied(u32),
-    /// All literals but this one are false.
+    /// No literal but this one can be true.
     Only(u32),
 }
 
@@ -196,7 +199,7 @@ impl Engine {
         self.trail.as_slice()
     }
 
-    /// The literal at a place of the trail.
+    /// What stands at a place of the trail.
     #[inline]
     pub(crate) fn at(&self, place: usize) -> u32 {
         word(self.trail.as_slice(), place)
@@ -240,7 +243,7 @@ impl Engine {
         }
     }
 
-    /// The literals of a clause.
+    /// What a clause consists of.
     #[inline]
     pub(crate) fn lits(&self, clause: u32) -> &[u32] {
         let (from, to) = self.range(clause);
@@ -312,7 +315,7 @@ impl Engine {
         Ok(())
     }
 
-    /// Makes a literal true by a decision.
+    /// Decides for a literal, on a new level.
     pub(crate) fn decide(&mut self, lit: u32) -> Result<(), NoMemory> {
         self.limits.push(self.trail.len())?;
         self.fix(lit, None)

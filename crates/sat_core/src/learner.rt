@@ -11,7 +11,7 @@ use std::alloc::Global;
 pub(crate) struct Learner {
     alloc: Global,
     marks: Vec<bool>,
-    /// The variables that are marked.
+    /// Those whose mark is set.
     marked: Vec<usize>,
     /// For each variable that has a value without a decision, the clause of that literal alone.
     units: Vec<Source>,

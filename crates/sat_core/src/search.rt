@@ -1,6 +1,6 @@
 ghost use Rattle.std.specs.Prelude.{◌≡◌};
 
-use crate::engine::{Engine, Value, negated};
+use crate::engine::{Engine, Value, negated, var_of};
 use crate::learner::Learner;
 use crate::source::{Source, narrow};
 use crate::store::Store;
@@ -8,6 +8,7 @@ use cnf::{Lit, NoMemory};
 use std::alloc::Global;
 
 /// What a search says that it found. Nothing is proved of it.
+#[derive(Clone, Copy, Debug)]
 pub(crate) enum Finding {
     /// The trail has the least model.
     Trail,
@@ -100,53 +101,104 @@ fn first_free(engine: &Engine, from: usize, vars: usize) -> Option<u32> {
     None
 }
 
-/// Searches: decides the least variable that has no value, for false, and learns from each conflict.
-pub(crate) fn search(
-    alloc: Global,
-    engine: &mut Engine,
-    store: &mut Store,
-) -> Result<Finding, NoMemory>
-    ensures { store.new ≡ store.old }
-{
-    let vars = store.cnf().vars();
-    let mut learner = Learner::new(alloc, vars)?;
-    let mut conflict = load(alloc, engine, store)?;
-    let mut next: usize = 0;
-    for _ in 0..u64::MAX {
-        if conflict.is_none() {
-            conflict = engine.propagate()?;
-        }
-        let Some(clause) = conflict else {
-            let Some(lit) = first_free(engine, next, vars) else {
-                return Ok(Finding::Trail);
-            };
-            next = (lit / 2) as usize;
-            engine.decide(lit)?;
-            continue;
-        };
-        if engine.level() == 0 {
-            return refuted(&mut learner, engine, store, clause);
-        }
-        let Some(first) = learner.resolve(engine, store, clause)? else {
-            return Ok(Finding::Nothing);
-        };
-        next = first;
-        conflict = None;
-    }
-    Ok(Finding::Nothing)
+/// A search under way. Nothing is proved of what it does.
+#[derive(Drop)]
+pub(crate) struct Search {
+    learner: Learner,
+    /// A clause without a literal that is not false.
+    conflict: Option<u32>,
+    /// No variable before this one is without a value.
+    next: usize,
 }
 
-fn refuted(
-    learner: &mut Learner,
-    engine: &mut Engine,
-    store: &mut Store,
-    conflict: u32,
-) -> Result<Finding, NoMemory>
-    ensures { store.new ≡ store.old }
-{
-    if learner.refute(engine, store, conflict)? {
-        Ok(Finding::Empty)
-    } else {
+impl Search {
+    /// Searches until something is found.
+    pub(crate) fn run(
+        alloc: Global,
+        engine: &mut Engine,
+        store: &mut Store,
+    ) -> Result<Finding, NoMemory>
+        ensures { store.new ≡ store.old }
+    {
+        let mut search = Search::begin(alloc, engine, store)?;
+        for _ in 0..u64::MAX {
+            if let Some(found) = search.step(engine, store)? {
+                return Ok(found);
+            }
+        }
         Ok(Finding::Nothing)
+    }
+
+    /// Takes all clauses that are known.
+    pub(crate) fn begin(
+        alloc: Global,
+        engine: &mut Engine,
+        store: &Store,
+    ) -> Result<Search, NoMemory> {
+        Ok(Search {
+            learner: Learner::new(alloc, store.cnf().vars())?,
+            conflict: load(alloc, engine, store)?,
+            next: 0,
+        })
+    }
+
+    /// Goes on by one decision, or by what is learned from one conflict. Answers what is found where that ends the search.
+    pub(crate) fn step(
+        &mut self,
+        engine: &mut Engine,
+        store: &mut Store,
+    ) -> Result<Option<Finding>, NoMemory>
+        ensures { store.new ≡ store.old }
+    {
+        if self.conflict.is_none() {
+            self.conflict = engine.propagate()?;
+        }
+        match self.conflict {
+            Some(clause) if engine.level() == 0 => self.refute(engine, store, clause),
+            Some(clause) => self.learn(engine, store, clause),
+            None => self.decide(engine, store.cnf().vars()),
+        }
+    }
+
+    /// Decides the least variable that has no value, for false.
+    fn decide(&mut self, engine: &mut Engine, vars: usize) -> Result<Option<Finding>, NoMemory> {
+        let Some(lit) = first_free(engine, self.next, vars) else {
+            return Ok(Some(Finding::Trail));
+        };
+        self.next = var_of(lit);
+        engine.decide(lit)?;
+        Ok(None)
+    }
+
+    fn learn(
+        &mut self,
+        engine: &mut Engine,
+        store: &mut Store,
+        conflict: u32,
+    ) -> Result<Option<Finding>, NoMemory>
+        ensures { store.new ≡ store.old }
+    {
+        let Some(first) = self.learner.resolve(engine, store, conflict)? else {
+            return Ok(Some(Finding::Nothing));
+        };
+        self.next = first;
+        self.conflict = None;
+        Ok(None)
+    }
+
+    /// Learns the empty clause.
+    fn refute(
+        &mut self,
+        engine: &mut Engine,
+        store: &mut Store,
+        conflict: u32,
+    ) -> Result<Option<Finding>, NoMemory>
+        ensures { store.new ≡ store.old }
+    {
+        if self.learner.refute(engine, store, conflict)? {
+            Ok(Some(Finding::Empty))
+        } else {
+            Ok(Some(Finding::Nothing))
+        }
     }
 }

@@ -1,19 +1,19 @@
-ghost use Rattle.std.specs.Prelude.{◌≡◌, ◌+◌, ◌≤◌, ◌++◌, ◌∷◌, [], IfErr, IfOk, OnErr, OnOk, length, take};
-ghost use Rattle.cnf.specs.Clauses.{Follows, Formula, IsInRange};
+ghost use Rattle.std.specs.Prelude.{◌≡◌, ◌+◌, ◌≤◌, ◌++◌, ◌∷◌, [], IfOk, IfSome, OnErr, OnOk, length};
+ghost use Rattle.cnf.specs.Clauses.{IsInRange, with_clauses};
 ghost use Rattle.sat_core.specs.Inside.Assuming.{Extends};
-ghost use Rattle.sat_core.specs.Solving.{Answers, units};
+ghost use Rattle.sat_core.specs.Solving.{Answers, units, with_first, with_given};
 ghost use Rattle.sat_core.specs.declared.fault.AddFault.TheVariants as fault;
 
 use crate::derivation::refutation;
 use crate::engine::Engine;
 use crate::fault::AddFault;
-use crate::search::{Finding, search};
+use crate::search::{Finding, Search};
 use crate::solved::Solved;
 use crate::split::solve_plainly;
 use crate::steps::Steps;
 use crate::store::Store;
 use crate::walk::least_of;
-use cnf::{Clause, Cnf, CnfFault, Lit, NoMemory};
+use cnf::{Clause, Cnf, Lit, NoMemory, are_in_range};
 use std::alloc::Global;
 use std::marker::Model;
 use std::sync::ledger::Ledger;
@@ -36,7 +36,8 @@ impl Model for Mark {
 
 /// Clauses over some variables, which come and go, and what was learned from them.
 ///
-/// Contracts see the clauses alone: what was learned follows from them, and changes no answer.
+/// Contracts see the clauses, and how often a plain search stood in. What was learned follows from the clauses, and changes
+/// no answer.
 #[derive(Drop)]
 pub struct Solver {
     alloc: Global,
@@ -45,34 +46,29 @@ pub struct Solver {
 }
 
 impl Model for Solver {
-    ghost use Rattle.cnf.specs.Clauses.{Formula};
+    ghost use Rattle.sat_core.specs.Solving.{Standing};
 
-    ghost Value = { Formula };
+    ghost Value = { Standing };
 
-    ghost view = { λ s. s.store };
+    ghost view = { λ s. record { given = s.store; fallbacks = s.fallbacks } };
 }
 
 /// Adds each literal as a clause of its own.
 fn add_units(alloc: Global, store: &mut Store, lits: &[Lit]) -> Result<(), NoMemory>
     requires in_range { IsInRange store.old.vars lits.now }
-    ensures added { OnOk result (store.new ≡ record {
-      vars = store.old.vars;
-      clauses = store.old.clauses ++ units lits.now;
-    }) }
+    ensures added { OnOk result (store.new ≡ with_clauses store.old (units lits.now)) }
     ensures extends { Extends store.old store.new }
 {
     for lit in lits {
-        let clause = Clause::from_lits(alloc, &[*lit])?;
-        let Ok(()) = store.add(clause) else {
-            return Err(NoMemory);
-        };
+        store.add(Clause::from_lits(alloc, &[*lit])?)?;
     }
     Ok(())
 }
 
 impl Solver {
+    /// A solver of these clauses, which has learned nothing.
     pub fn new(alloc: Global, cnf: Cnf) -> Result<Solver, NoMemory>
-        ensures { IfOk result (λ solver. solver ≡ cnf) }
+        ensures { IfOk result (λ solver. solver ≡ record { given = cnf; fallbacks = 0 }) }
     {
         Ok(Solver {
             alloc,
@@ -83,7 +79,7 @@ impl Solver {
 
     /// How many clauses there are, to go back to.
     pub fn mark(&self) -> Mark
-        ensures { result ≡ length self.now.clauses }
+        ensures { result ≡ length self.now.given.clauses }
     {
         Mark {
             count: self.store.cnf().clauses().len(),
@@ -92,35 +88,36 @@ impl Solver {
 
     /// How often a search gave up, and a plain one, which takes a time that doubles with each variable, stood in for it.
     /// This is to stay 0.
-    pub fn fallbacks(&self) -> u64 {
+    pub fn fallbacks(&self) -> u64
+        ensures { result ≡ self.now.fallbacks }
+    {
         self.fallbacks
     }
 
     /// Adds a clause at the end. It is refused exactly where one of its variables is out of range.
     pub fn add(&mut self, lits: &[Lit]) -> Result<(), AddFault>
-        ensures added { OnOk result (self.new ≡ record {
-          vars = self.old.vars;
-          clauses = self.old.clauses ++ lits.now ∷ [];
-        }) }
-        ensures in_range { OnOk result (IsInRange self.old.vars lits.now) }
-        ensures fault { IfErr result (λ e. e ≡ fault.VarRange →
-            IsInRange self.old.vars lits.now → ⊥) }
+        ensures added { OnOk result (self.new ≡ with_given self.old (lits.now ∷ [])) }
+        ensures in_range { OnOk result (IsInRange self.old.given.vars lits.now) }
+        ensures range { result ≡ Err fault.VarRange → IsInRange self.old.given.vars lits.now → ⊥ }
+        ensures memory { result ≡ Err fault.NoMemory → IsInRange self.old.given.vars lits.now }
         ensures err { OnErr result (self.new ≡ self.old) }
     {
+        if !are_in_range(self.store.cnf().vars(), lits) {
+            return Err(AddFault::VarRange);
+        }
         let Ok(clause) = Clause::from_lits(self.alloc, lits) else {
             return Err(AddFault::NoMemory);
         };
-        match self.store.add(clause) {
-            Ok(()) => Ok(()),
-            Err(CnfFault::VarRange) => Err(AddFault::VarRange),
-            Err(CnfFault::NoMemory) => Err(AddFault::NoMemory),
+        if self.store.add(clause).is_err() {
+            return Err(AddFault::NoMemory);
         }
+        Ok(())
     }
 
     /// Leaves the clauses that there were at the mark, and what was learned from them alone.
     pub fn back_to(&mut self, mark: Mark)
-        requires { mark ≤ length self.old.clauses }
-        ensures { self.new ≡ record { vars = self.old.vars; clauses = take mark self.old.clauses } }
+        requires { mark ≤ length self.old.given.clauses }
+        ensures { self.new ≡ with_first mark self.old }
     {
         self.store.back_to(mark.count);
     }
@@ -132,10 +129,11 @@ impl Solver {
         assume: &[Lit],
         steps: &mut Steps<L>,
     ) -> Result<Solved, NoMemory>
-        requires in_range { IsInRange self.old.vars assume.now }
+        requires in_range { IsInRange self.old.given.vars assume.now }
         ensures answers { IfOk result
-            (Answers self.old.vars (self.old.clauses ++ units assume.now)) }
-        ensures unchanged { self.new ≡ self.old }
+            (Answers self.old.given.vars (self.old.given.clauses ++ units assume.now)) }
+        ensures unchanged { self.new.given ≡ self.old.given }
+        ensures counted { self.old.fallbacks ≤ self.new.fallbacks }
         ensures one_step { steps.new ≡ steps.old + 1 }
     {
         steps.tick();
@@ -147,34 +145,36 @@ impl Solver {
 
     /// The same, and leaves the literals as clauses, or some of them.
     fn solve_assuming(&mut self, assume: &[Lit]) -> Result<Solved, NoMemory>
-        requires in_range { IsInRange self.old.vars assume.now }
+        requires in_range { IsInRange self.old.given.vars assume.now }
         ensures answers { IfOk result
-            (Answers self.old.vars (self.old.clauses ++ units assume.now)) }
-        ensures extends { Extends self.old self.new }
+            (Answers self.old.given.vars (self.old.given.clauses ++ units assume.now)) }
+        ensures extends { Extends self.old.given self.new.given }
+        ensures counted { self.old.fallbacks ≤ self.new.fallbacks }
     {
         add_units(self.alloc, &mut self.store, assume)?;
-        self.solve_all()
+        if let Some(solved) = self.search()? {
+            return Ok(solved);
+        }
+        solve_plainly(self.alloc, self.store.cnf(), &mut self.fallbacks)
     }
 
-    fn solve_all(&mut self) -> Result<Solved, NoMemory>
-        ensures answers { IfOk result (Answers self.old.vars self.old.clauses) }
+    /// What the search finds, if it finds it and what it hands over is accepted.
+    fn search(&mut self) -> Result<Option<Solved>, NoMemory>
+        ensures answers { IfOk result (λ found. IfSome found
+            (Answers self.old.given.vars self.old.given.clauses)) }
         ensures unchanged { self.new ≡ self.old }
     {
         let mut engine = Engine::new(self.alloc, self.store.cnf().vars())?;
-        match search(self.alloc, &mut engine, &mut self.store)? {
-            Finding::Trail => {
-                if let Some(values) = least_of(self.alloc, &self.store, &engine)? {
-                    return Ok(Solved::Least(values));
-                }
-            }
-            Finding::Empty => {
-                if let Some(derivation) = refutation(self.alloc, &self.store)? {
-                    return Ok(Solved::None(derivation));
-                }
-            }
-            Finding::Nothing => {}
+        match Search::run(self.alloc, &mut engine, &mut self.store)? {
+            Finding::Trail => match least_of(self.alloc, &self.store, &engine)? {
+                Some(values) => Ok(Some(Solved::Least(values))),
+                None => Ok(None),
+            },
+            Finding::Empty => match refutation(self.alloc, &self.store)? {
+                Some(derivation) => Ok(Some(Solved::None(derivation))),
+                None => Ok(None),
+            },
+            Finding::Nothing => Ok(None),
         }
-        self.fallbacks = self.fallbacks.saturating_add(1);
-        solve_plainly(self.alloc, self.store.cnf())
     }
 }

@@ -1,7 +1,7 @@
-ghost use Rattle.std.specs.Prelude.{◌≡◌, ◌≤◌, ◌++◌, ◌∷◌, [], Bool, IfOk, List, length, map};
+ghost use Rattle.std.specs.Prelude.{◌≡◌, ◌≤◌, ◌+◌, ◌<◌, ◌^◌, ◌++◌, ◌∷◌, [], Bool, IfOk, IfSome, List, length, map};
 ghost use Rattle.cnf.specs.Clauses.{IsModel};
 ghost use Rattle.certificates.specs.declared.derivation.Item.TheVariants as item;
-ghost use Rattle.sat_core.specs.Inside.Split.{Denies, FirstFails, Grows, IsLog, IsRight, Splits, denied, with_steps};
+ghost use Rattle.sat_core.specs.Inside.Split.{Excludes, FirstFails, Grows, IsLog, IsRight, Splits, excluding, with_steps};
 ghost use Rattle.sat_core.specs.Solving.{Answers};
 
 use crate::derivation::are_writable;
@@ -13,7 +13,8 @@ use std::alloc::Global;
 /// The place of the first clause that fails.
 fn first_failing(cnf: &Cnf, values: &[bool]) -> Option<usize>
     requires { length values.now ≡ cnf.now.vars }
-    ensures { FirstFails cnf.now values.now result }
+    ensures fails { FirstFails cnf.now values.now result }
+    ensures few { IfSome result (λ place. place + 1 < 2 ^ 64) }
 {
     for (place, clause) in cnf.clauses().iter().enumerate() {
         if !clause.holds(values) {
@@ -23,9 +24,9 @@ fn first_failing(cnf: &Cnf, values: &[bool]) -> Option<usize>
     None
 }
 
-/// The clause that fails exactly where the first values are these.
-fn denial(alloc: Global, chosen: &[bool]) -> Result<Clause, NoMemory>
-    ensures { IfOk result (λ clause. clause ≡ denied 0 chosen.now) }
+/// The clause that is false just where the first variables have the chosen values.
+fn exclusion(alloc: Global, chosen: &[bool]) -> Result<Clause, NoMemory>
+    ensures { IfOk result (λ clause. clause ≡ excluding 0 chosen.now) }
 {
     let mut lits = Vec::new(alloc);
     for (var, value) in chosen.iter().enumerate() {
@@ -34,8 +35,8 @@ fn denial(alloc: Global, chosen: &[bool]) -> Result<Clause, NoMemory>
     Clause::from_lits(alloc, lits.as_slice())
 }
 
-/// Adds the step that denies the choice, which these clauses show by their numbers. Answers its number.
-fn deny(
+/// Adds the step that excludes the choice, which these clauses show by their numbers. Answers its number.
+fn exclude(
     alloc: Global,
     cnf: &Cnf,
     steps: &mut Vec<Step>,
@@ -44,27 +45,22 @@ fn deny(
 ) -> Result<usize, NoMemory>
     requires log { IsLog cnf.now steps.old.items }
     requires right { IsRight cnf.now.vars (with_steps cnf.now.clauses steps.old.items)
-        (record { clause = denied 0 chosen.now; hints = hints.now }) }
+        (record { clause = excluding 0 chosen.now; hints = hints.now }) }
     requires none { (rest : List Bool) →
         IsModel cnf.now.vars cnf.now.clauses (chosen.now ++ rest) → ⊥ }
     ensures grows { IfOk result (λ _. Grows steps.old.items steps.new.items) }
-    ensures denies { IfOk result (Denies cnf.now steps.new.items chosen.now) }
+    ensures excludes { IfOk result (Excludes cnf.now steps.new.items chosen.now) }
 {
-    let Some(before) = cnf.clauses().len().checked_add(steps.len()) else {
-        return Err(NoMemory);
-    };
-    let Some(number) = before.checked_add(1) else {
-        return Err(NoMemory);
-    };
+    let number = cnf.clauses().len() + steps.len() + 1;
     let step = Step {
-        clause: denial(alloc, chosen)?,
+        clause: exclusion(alloc, chosen)?,
         hints: Numbers::of(Vec::from_slice(alloc, hints)?),
     };
     steps.push(step)?;
     Ok(number)
 }
 
-/// The least model that begins with the chosen values, in their place; else the number of a step that denies them.
+/// The least model that begins with the chosen values, in their place; else the number of a step that excludes them.
 fn split(
     alloc: Global,
     cnf: &Cnf,
@@ -81,10 +77,7 @@ fn split(
         let Some(place) = first_failing(cnf, chosen.as_slice()) else {
             return Ok(None);
         };
-        let Some(failing) = place.checked_add(1) else {
-            return Err(NoMemory);
-        };
-        let number = deny(alloc, cnf, steps, chosen.as_slice(), &[failing])?;
+        let number = exclude(alloc, cnf, steps, chosen.as_slice(), &[place + 1])?;
         return Ok(Some(number));
     }
     chosen.push(false)?;
@@ -97,7 +90,7 @@ fn split(
         return Ok(None);
     };
     chosen.pop();
-    let number = deny(alloc, cnf, steps, chosen.as_slice(), &[low, high])?;
+    let number = exclude(alloc, cnf, steps, chosen.as_slice(), &[low, high])?;
     Ok(Some(number))
 }
 
@@ -112,17 +105,20 @@ fn items_of(alloc: Global, steps: Vec<Step>) -> Result<Vec<Item>, NoMemory>
 }
 
 /// The least model of the clauses, or a derivation that there is none, by trying false before true for one variable after
-/// another. It takes a time that doubles with each variable.
-pub(crate) fn solve_plainly(alloc: Global, cnf: &Cnf) -> Result<Solved, NoMemory>
-    ensures { IfOk result (Answers cnf.now.vars cnf.now.clauses) }
+/// another. It takes a time that doubles with each variable, so it counts how often it is called.
+pub(crate) fn solve_plainly(alloc: Global, cnf: &Cnf, calls: &mut u64) -> Result<Solved, NoMemory>
+    ensures answers { IfOk result (Answers cnf.now.vars cnf.now.clauses) }
+    ensures counted { calls.old + 1 < 2 ^ 64 → calls.new ≡ calls.old + 1 }
+    ensures kept { calls.old ≤ calls.new }
 {
+    *calls = calls.saturating_add(1);
     let mut chosen = Vec::new(alloc);
     let mut steps = Vec::new(alloc);
     let Some(_) = split(alloc, cnf, &mut steps, &mut chosen)? else {
         return Ok(Solved::Least(chosen));
     };
     let items = items_of(alloc, steps)?;
-    // Numbers that have no text are greater than any memory.
+    // Numbers of 2^62 and more have no text, and so many clauses or variables have no place in any memory.
     if !are_writable(items.as_slice()) {
         return Err(NoMemory);
     }

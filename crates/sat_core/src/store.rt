@@ -1,11 +1,9 @@
-ghost use Rattle.std.specs.Prelude.{◌≡◌, ◌≤◌, ◌++◌, ◌∷◌, [], All, IfOk, IfSome, IfErr, None, OnErr, OnOk, length, replicate, take};
-ghost use Rattle.std.specs.Bool.{OnTrue};
-ghost use Rattle.cnf.specs.Clauses.{Follows, Formula, IsInRange};
-ghost use Rattle.cnf.specs.declared.fault.CnfFault.TheVariants as fault;
+ghost use Rattle.std.specs.Prelude.{◌≡◌, ◌≤◌, ◌∷◌, [], All, IfOk, IfSome, None, OnErr, OnOk, length, replicate};
+ghost use Rattle.cnf.specs.Clauses.{Follows, Formula, IsInRange, first_clauses, with_clauses};
 ghost use Rattle.sat_core.specs.Inside.Learning.{FollowsFirst, IsLearned};
 
 use crate::source::{Source, narrow};
-use cnf::{Clause, Cnf, CnfFault, Lit, NoMemory};
+use cnf::{Clause, Cnf, Lit, NoMemory, are_in_range};
 use proof_check::{Outcome, Table};
 use std::alloc::Global;
 use std::marker::Model;
@@ -46,13 +44,6 @@ fn find<'a>(cnf: &'a Cnf, learned: &'a [Learned], source: Source) -> Option<(&'a
             }
         }
     }
-}
-
-/// Whether each variable is among the first ones.
-fn are_in_range(vars: usize, lits: &[Lit]) -> bool
-    ensures { OnTrue result (IsInRange vars lits.now) }
-{
-    lits.iter().all(|lit| lit.var < vars)
 }
 
 /// From how many of the first given clauses the clause follows, if the hints show that it does: with its literals false
@@ -112,7 +103,7 @@ pub(crate) struct Store {
     learned: Vec<Learned>,
     /// The number that the next learned clause gets.
     next: usize,
-    /// Blank between any two calls.
+    /// No variable has a value in it but while a clause is learned.
     table: Table,
 }
 
@@ -166,23 +157,19 @@ impl Store {
         Some(lits)
     }
 
-    /// Adds a given clause at the end. It is refused exactly where one of its variables is out of range.
-    pub(crate) fn add(&mut self, clause: Clause) -> Result<(), CnfFault>
-        ensures added { OnOk result (self.new ≡ record {
-          vars = self.old.vars;
-          clauses = self.old.clauses ++ clause ∷ [];
-        }) }
-        ensures in_range { OnOk result (IsInRange self.old.vars clause) }
-        ensures fault { IfErr result (λ e. e ≡ fault.VarRange → IsInRange self.old.vars clause → ⊥) }
+    /// Adds a given clause at the end.
+    pub(crate) fn add(&mut self, clause: Clause) -> Result<(), NoMemory>
+        requires { IsInRange self.old.vars clause }
+        ensures added { OnOk result (self.new ≡ with_clauses self.old (clause ∷ [])) }
         ensures err { OnErr result (self.new ≡ self.old) }
     {
-        self.cnf.push(clause)
+        self.cnf.push_in_range(clause)
     }
 
     /// Leaves the first given clauses, and what was learned from them alone.
     pub(crate) fn back_to(&mut self, count: usize)
         requires { count ≤ length self.old.clauses }
-        ensures { self.new ≡ record { vars = self.old.vars; clauses = take count self.old.clauses } }
+        ensures { self.new ≡ first_clauses count self.old }
     {
         self.learned.retain(|one| one.needs <= count);
         self.cnf.truncate(count);

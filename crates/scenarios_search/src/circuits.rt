@@ -1,5 +1,5 @@
-ghost use Rattle.std.specs.Prelude.{◌≡◌, ◌<◌, ◌≤◌, length, IfOk};
-ghost use Rattle.circuit.specs.Value.{AreNodes};
+ghost use Rattle.std.specs.Prelude.{◌≡◌, ◌<◌, ◌≤◌, [], length, IfOk, OnOk};
+ghost use Rattle.circuit.specs.Value.{AreNodes, input_count};
 
 use circuit::{
     Circuit, NoMemory, Node, clauses_are_circuits, gates_are_shared, gates_are_tests, least, to_cnf,
@@ -289,6 +289,38 @@ fn a_gate_is_made_once(rt: HostRuntime) {
     let mut circuit = Circuit::new(rt.alloc());
     let counts = made_twice(&mut circuit);
     assert!(&rt; matches!(counts, Ok((5, 5))));
+}
+
+/// Two inputs, and that they differ.
+fn differ(circuit: &mut Circuit) -> Result<Node, NoMemory>
+    requires { circuit.old ≡ [] }
+    ensures root { IfOk result (λ root. root < length circuit.new) }
+    ensures inputs { OnOk result (input_count circuit.new ≡ 2) }
+{
+    let a = circuit.input()?;
+    let b = circuit.input()?;
+    let not_b = circuit.not(b)?;
+    circuit.ite(a, not_b, b)
+}
+
+/// Three inputs of which the last and the first differ, and the second is true.
+fn differ_within(alloc: Global, circuit: &mut Circuit) -> Result<Node, NoMemory>
+    ensures { IfOk result (λ root. root < length circuit.new) }
+{
+    let mut inner = Circuit::new(alloc);
+    let root = differ(&mut inner)?;
+    let [x, y, z] = three_inputs(circuit)?;
+    let roots = circuit.append(&inner, &[z, x], &[root])?;
+    circuit.and(&[y, roots[0]])
+}
+
+#[test]
+fn a_circuit_is_appended_over_nodes(rt: HostRuntime) -> Result<(), Fail> {
+    let mut circuit = Circuit::new(rt.alloc());
+    let root = differ_within(rt.alloc(), &mut circuit)?;
+    let text = least_inputs(rt.alloc(), &circuit, root)?;
+    assert_eq!(rt; text.as_str(), "011");
+    Ok(())
 }
 
 #[test]

@@ -1,5 +1,6 @@
 use certificates::{
-    CertFault, Certificate, Item, one_certificate, read_certificate, written_is_read,
+    CertFault, Certificate, Item, one_certificate, read_certificate, write_certificate,
+    written_is_read,
 };
 use cnf::{Clause, Cnf, CnfFault, Lit};
 use proof_check::{
@@ -105,13 +106,22 @@ fn certificate_of(alloc: Global, items: &str) -> Result<Certificate, Fail> {
     }
 }
 
+/// Each item once more.
+fn copied(alloc: Global, items: &[Item]) -> Result<Derivation, Fail> {
+    let mut copies = Vec::new(alloc);
+    for item in items {
+        copies.push(item.copy(alloc)?)?;
+    }
+    Ok(Derivation::of(copies))
+}
+
 /// Writes what is said of a derivation: the first fault, or what is left of it where it is trimmed.
 fn push_verdict(alloc: Global, items: &str, text: &mut String) -> Result<(), Fail> {
     let cnf = match no_x(alloc) {
         Ok(cnf) => cnf,
         Err(_) => return Err("no clauses".into()),
     };
-    let derivation = certificate_of(alloc, items)?.derivation;
+    let derivation = copied(alloc, certificate_of(alloc, items)?.derivation.items())?;
     match check(alloc, &cnf, &derivation) {
         Ok(()) => push_items(&trim(alloc, &cnf, &derivation)?, text),
         Err(fault) => push_fault(fault, text),
@@ -187,6 +197,61 @@ no scenario => malformed 2
 fn certificates_are_read(rt: HostRuntime) -> Result<(), Fail> {
     let text = answered(rt.alloc(), CERTIFICATES, "\n", push_read)?;
     assert_eq!(rt; text.as_str(), CERTIFICATES);
+    Ok(())
+}
+
+/// The text of what a certificate needs, where it is accepted.
+fn trimmed_text(alloc: Global, cnf: &Cnf, bytes: &[u8]) -> Result<Vec<u8>, Fail> {
+    let Ok(read) = read_certificate(alloc, bytes) else {
+        return Err("no certificate".into());
+    };
+    let Ok(()) = check(alloc, cnf, &read.derivation) else {
+        return Err("not accepted".into());
+    };
+    let trimmed = Certificate {
+        line: read.line,
+        derivation: trim(alloc, cnf, &read.derivation)?,
+    };
+    Ok(write_certificate(alloc, &trimmed)?)
+}
+
+/// Writes what is left of a certificate's text once it is trimmed, and what is said of it where it is read again.
+fn push_rewritten(alloc: Global, given: &str, text: &mut String) -> Result<(), Fail> {
+    let cnf = match no_x(alloc) {
+        Ok(cnf) => cnf,
+        Err(_) => return Err("no clauses".into()),
+    };
+    let mut lines = String::new(alloc);
+    push_lines(given, &mut lines)?;
+    let written = trimmed_text(alloc, &cnf, lines.as_bytes())?;
+    for byte in &written {
+        text.push(if *byte == b'\n' {
+            ';'
+        } else {
+            char::from(*byte)
+        })?;
+    }
+    let Ok(again) = read_certificate(alloc, written.as_slice()) else {
+        return Err("not read again".into());
+    };
+    match check(alloc, &cnf, &again.derivation) {
+        Ok(()) => text.push_str("accepted")?,
+        Err(fault) => push_fault(fault, text)?,
+    }
+    Ok(())
+}
+
+/// Certificates of both versions, which are read, trimmed, written, and read and accepted again.
+const REWRITTEN: &str =
+    "margrave-proof 1 7;1 2 0 1 0;1 0 1 2 0;0 5 3 0;qed => margrave-proof 2 7;1 0 1 2 0;0 4 3 0;qed;accepted
+margrave-proof 2 3;1 2 0 1 0;d 4 0;1 0 1 2 0;d 1 2 0;0 5 3 0;1 0 5 0;qed;x \
+=> margrave-proof 2 3;1 0 1 2 0;0 4 3 0;qed;accepted
+";
+
+#[test]
+fn certificates_are_trimmed_and_read_again(rt: HostRuntime) -> Result<(), Fail> {
+    let text = answered(rt.alloc(), REWRITTEN, "\n", push_rewritten)?;
+    assert_eq!(rt; text.as_str(), REWRITTEN);
     Ok(())
 }
 

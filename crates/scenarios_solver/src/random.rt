@@ -1,6 +1,6 @@
 ghost use Rattle.std.specs.Prelude.{◌≡◌};
 
-use crate::searches::answer;
+use crate::searches::{answer, answer_assuming};
 use cnf::{Clause, Cnf, CnfFault, Lit, NoMemory};
 use sat_core::{Solved, Solver};
 use std::alloc::Global;
@@ -96,11 +96,42 @@ fn random_clauses_have_the_answer_of_a_table(rt: HostRuntime) {
 
 /// Whether the answer is the table's, and no plain search gave it.
 fn is_right(alloc: Global, solver: &mut Solver, cnf: &Cnf) -> Result<bool, CnfFault>
-    ensures { solver.new ≡ solver.old }
+    ensures { solver.new.given ≡ solver.old.given }
 {
     let expected = first_by_table(alloc, cnf.clauses())?;
     let solved = answer(solver)?;
     Ok(agree(&solved, &expected) && solver.fallbacks() == 0)
+}
+
+/// Whether the answer with the literal assumed is the table's with the literal as a clause, and the answer without it
+/// again is that of the clauses alone.
+fn assumes(alloc: Global, seed: &mut u64) -> Result<bool, CnfFault> {
+    let cnf = random_clauses(alloc, seed)?;
+    let lit = Lit::new((draw(seed) % 9) as usize, draw(seed) % 2 == 0);
+    let mut with = cnf.copy(alloc)?;
+    with.push(Clause::from_lits(alloc, &[lit])?)?;
+    let expected = first_by_table(alloc, with.clauses())?;
+    let mut solver = Solver::new(alloc, cnf.copy(alloc)?)?;
+    let solved = answer_assuming(&mut solver, &[lit])?;
+    Ok(agree(&solved, &expected) && is_right(alloc, &mut solver, &cnf)?)
+}
+
+/// How many of so many random sets of clauses were answered otherwise where a literal was assumed.
+fn wrongly_assumed(alloc: Global, count: u64) -> Result<u64, CnfFault> {
+    let mut seed = 5;
+    let mut wrong: u64 = 0;
+    for _ in 0..count {
+        if !assumes(alloc, &mut seed)? {
+            wrong = wrong.saturating_add(1);
+        }
+    }
+    Ok(wrong)
+}
+
+#[test]
+fn literals_are_assumed_for_one_answer(rt: HostRuntime) {
+    let wrong = wrongly_assumed(rt.alloc(), 40);
+    assert!(&rt; matches!(wrong, Ok(0)));
 }
 
 /// Adds a clause, asks, goes back and asks again. Answers whether both answers are right.

@@ -1,4 +1,5 @@
 ghost use Rattle.std.specs.Prelude.{◌≡◌, ◌<◌};
+ghost use Rattle.cnf.specs.Clauses.{IsInRange};
 
 use cnf::{Clause, Cnf, CnfFault, Lit, NoMemory};
 use sat_core::{Solved, Solver, Steps};
@@ -6,22 +7,31 @@ use std::alloc::Global;
 use std::marker::Brand;
 use std::sync::ledger::{Blank, Ledger};
 
-/// What is found where nothing is assumed.
-pub(crate) fn found<L: Ledger>(solver: &mut Solver, blank: Blank) -> Result<Solved, NoMemory>
+/// What is found where these literals are assumed.
+fn found<L: Ledger>(solver: &mut Solver, assume: &[Lit], blank: Blank) -> Result<Solved, NoMemory>
     requires name { blank.name ≡ L.name }
     requires parts { blank.parts ≡ L.parts }
     requires some { 0 < blank.parts }
-    ensures { solver.new ≡ solver.old }
+    requires in_range { IsInRange solver.old.given.vars assume.now }
+    ensures { solver.new.given ≡ solver.old.given }
 {
     let mut steps: Steps<L> = Steps::begin(blank);
-    solver.solve(&[], &mut steps)
+    solver.solve(assume, &mut steps)
 }
 
-/// What is found where nothing is assumed, by who counts no steps.
-pub(crate) fn answer(solver: &mut Solver) -> Result<Solved, NoMemory>
-    ensures { solver.new ≡ solver.old }
+/// What is found where these literals are assumed, by who counts no steps.
+pub(crate) fn answer_assuming(solver: &mut Solver, assume: &[Lit]) -> Result<Solved, NoMemory>
+    requires { IsInRange solver.old.given.vars assume.now }
+    ensures { solver.new.given ≡ solver.old.given }
 {
-    found::<Brand>(solver, Blank::new(1))
+    found::<Brand>(solver, assume, Blank::new(1))
+}
+
+/// What is found where nothing is assumed.
+pub(crate) fn answer(solver: &mut Solver) -> Result<Solved, NoMemory>
+    ensures { solver.new.given ≡ solver.old.given }
+{
+    answer_assuming(solver, &[])
 }
 
 fn push(alloc: Global, cnf: &mut Cnf, lits: &[Lit]) -> Result<(), CnfFault> {
@@ -89,6 +99,6 @@ fn what_was_learned_is_not_searched_again(rt: HostRuntime) {
 
 #[test]
 fn a_chain_is_followed_at_once(rt: HostRuntime) {
-    let values = all_true(rt.alloc(), 4096);
+    let values = all_true(rt.alloc(), 1 << 19);
     assert!(&rt; matches!(values, Ok(Some((true, 0)))));
 }

@@ -1,4 +1,4 @@
--- A search below a choice of the first values: the least model that begins with it, or a step that denies it.
+-- What the plain search answers of the models that begin with some values: the least of them, or a step by which there is none.
 use Rattle.std.specs.Prelude.{◌≡◌, ℕ, ◌+◌, ◌<◌, Bool, true, false, Option, Some, None, List, [], ◌∷◌, ◌++◌, length, map, slice_index_or}
 use Rattle.std.specs.List.{list_any}
 use Rattle.cnf.specs.declared.lit.Lit.{Lit}
@@ -7,10 +7,10 @@ use Rattle.cnf.specs.Order.{LexLe}
 use Rattle.certificates.specs.declared.derivation.Step.{Step}
 use Rattle.proof_check.specs.Derivations.{is_empty, is_in_range, step_fault}
 
--- the clause that fails exactly where the values from this variable on are these
-abbrev pub denied : ℕ → List Bool → List Lit
-denied from [] = []
-denied from (value ∷ values) = (record { var = from; negative = value }) ∷ denied (from + 1) values
+-- the clause that is false just where these are the values from this variable on
+abbrev pub excluding : ℕ → List Bool → List Lit
+excluding from [] = []
+excluding from (value ∷ values) = (record { var = from; negative = value }) ∷ excluding (from + 1) values
 
 abbrev pub with_steps : List (List Lit) → List Step → List (List Lit)
 with_steps clauses steps = clauses ++ map (λ (s : Step). s.clause) steps
@@ -39,16 +39,16 @@ pub record Grows (old new : List Step) : Type 0 where
   pub steps : new ≡ old ++ more
 
 -- no model begins with the choice; the last step says so, and has this number among the clauses
-pub record Denies (formula : Formula) (steps : List Step) (chosen : List Bool) (number : ℕ) : Type 0 where
+pub record Excludes (formula : Formula) (steps : List Step) (chosen : List Bool) (number : ℕ) : Type 0 where
   pub front : List Step
   pub hints : List ℕ
   pub before : IsLog formula front
   pub right : AreRight formula.vars formula.clauses steps
-  pub whole : steps ≡ front ++ (record { clause = denied 0 chosen; hints = hints }) ∷ []
+  pub whole : steps ≡ front ++ (record { clause = excluding 0 chosen; hints = hints }) ∷ []
   pub last : number ≡ length formula.clauses + length front + 1
   pub none : (rest : List Bool) → IsModel formula.vars formula.clauses (chosen ++ rest) → ⊥
 
--- among the models that begin with the choice, the least
+-- the least of the models with the chosen values
 pub record IsLeastAfter (formula : Formula) (chosen values : List Bool) : Type 0 where
   pub rest : List Bool
   pub whole : values ≡ chosen ++ rest
@@ -57,9 +57,9 @@ pub record IsLeastAfter (formula : Formula) (chosen values : List Bool) : Type 0
 
 abbrev pub Splits : Formula → List Step → List Bool → List Bool → Option ℕ → Type 0
 Splits formula steps before after None = IsLeastAfter formula before after
-Splits formula steps before after (Some number) = Denies formula steps before number × (after ≡ before)
+Splits formula steps before after (Some number) = Excludes formula steps before number × (after ≡ before)
 
--- a clause that fails, or none does
+-- the place of a clause that is false; none where all are true
 abbrev pub FirstFails : Formula → List Bool → Option ℕ → Type 0
 FirstFails formula values None = all_hold values formula.clauses ≡ true
 FirstFails formula values (Some place) =

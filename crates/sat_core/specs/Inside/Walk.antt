@@ -5,19 +5,19 @@ use Rattle.cnf.specs.Clauses.{Formula, IsModel, lit_holds}
 use Rattle.sat_core.specs.declared.source.Source.{Source}
 
 -- below a variable, the values are those of the table where it has one
-abbrev pub AgreesBelow : List Bool → List (Option Bool) → ℕ → Type 0
-AgreesBelow values table end = (k : ℕ) (b : Bool) → k < end → slice_index_or table k None ≡ Some b
+abbrev pub HasValuesBelow : List Bool → List (Option Bool) → ℕ → Type 0
+HasValuesBelow values table end = (k : ℕ) (b : Bool) → k < end → slice_index_or table k None ≡ Some b
     → slice_index_or values k false ≡ b
 
 -- the values are those of the table wherever it has one
-abbrev pub Agrees : List Bool → List (Option Bool) → Type 0
-Agrees values table = (k : ℕ) (b : Bool) → slice_index_or table k None ≡ Some b
+abbrev pub HasValues : List Bool → List (Option Bool) → Type 0
+HasValues values table = (k : ℕ) (b : Bool) → slice_index_or table k None ≡ Some b
     → slice_index_or values k false ≡ b
 
 -- in each model with the values of the table, the literal is true
 abbrev pub IsForced : Formula → List (Option Bool) → Lit → Type 0
 IsForced formula table lit = (values : List Bool) → IsModel formula.vars formula.clauses values
-    → Agrees values table → lit_holds values lit ≡ true
+    → HasValues values table → lit_holds values lit ≡ true
 
 -- a literal that is decided is negative; another one is forced, and is negative or not below the decided ones
 abbrev pub HasReason : Formula → List (Option Bool) → ℕ → Lit → Option Source → Type 0

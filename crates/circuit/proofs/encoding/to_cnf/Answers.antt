@@ -1,9 +1,9 @@
 use Rattle.std.proofs.Common.{◌≡◌, ◌∷◌, [], false, length, get_or, ap, ap₂, sym, ◌∙◌, arith}
 use Rattle.std.proofs.lemmas.Grind.{get_or_default_zero}
+use Rattle.cnf.specs.Clauses.{with_clauses}
 use Rattle.circuit.specs.Append.{moved}
-use Rattle.circuit.specs.Clauses.{variables, value_clauses, gate_clauses, with_clauses, circuit_formula, literal}
-use Rattle.circuit.proofs.Completion.{begins_least, models_of, one_completion}
-use Rattle.circuit.proofs.GateVariables.{variables_count, parts_numbered, formula_more, formula_all}
+use Rattle.circuit.specs.Clauses.{variables, value_clauses, gate_clauses, circuit_formula, literal}
+use Rattle.circuit.proofs.GateVariables.{variables_count, variable_below, variables_below, parts_numbered, formula_more, formula_all}
 use Rattle.circuit.proofs.encoding.to_cnf.Goals as goal
 
 pub loop-place-init : goal.loop-place-init
@@ -16,11 +16,29 @@ pub bounds-variables-place-2 : goal.bounds-variables-place-2
 bounds-variables-place-2 c =
     omega (arith, ap length (c.as_slice-variables.ensures.value ∙ c.in_ok-all.ensures), variables_count c.gates-gates.result.now, ap length c.gates-gates.ensures.gates, c.requires, c.place.ensures)
 
-pub push_gate-requires : goal.push_gate-requires
-push_gate-requires c =
+pub push_gate-requires-clause-parts : goal.push_gate-requires-clause-parts
+push_gate-requires-clause-parts c =
     let gates = c.gates-gates.result.now in
     let many : length c.as_slice-variables.result.now ≡ length gates = ap length (c.as_slice-variables.ensures.value ∙ c.in_ok-all.ensures) ∙ variables_count gates in
     parts_numbered gates c.as_slice-variables.result.now c.loop-place.place c.index-gates-place.result (rw c.gates-gates.ensures.gates c.gates-gates.ensures.circuit) many c.loop-place-test.true c.index-gates-place.is
+
+pub push_gate-requires-clause-variables : goal.push_gate-requires-clause-variables
+push_gate-requires-clause-variables c =
+    variables_below c.gates-gates.result.now c.as_slice-variables.result.now c.loop-place.formula.vars (rw c.gates-gates.ensures.gates c.gates-gates.ensures.circuit)
+    (c.as_slice-variables.ensures.value ∙ c.in_ok-all.ensures) (ap (λ formula. formula.vars) c.loop-place.invariant)
+
+pub push_gate-requires-clause-variable : goal.push_gate-requires-clause-variable
+push_gate-requires-clause-variable c =
+    variable_below c.gates-gates.result.now c.as_slice-variables.result.now c.loop-place.formula.vars c.loop-place.place (rw c.gates-gates.ensures.gates c.gates-gates.ensures.circuit)
+    (c.as_slice-variables.ensures.value ∙ c.in_ok-all.ensures) (ap (λ formula. formula.vars) c.loop-place.invariant) c.loop-place-test.true
+
+pub push-requires : goal.push-requires
+push-requires c =
+    let root = c.place.result in
+    let below =
+    variable_below c.gates-gates.result.now c.as_slice-variables.result.now c.loop-place.formula.vars root (rw c.gates-gates.ensures.gates c.gates-gates.ensures.circuit)
+    (c.as_slice-variables.ensures.value ∙ c.in_ok-all.ensures) (ap (λ formula. formula.vars) c.loop-place.invariant) (omega (arith, ap length c.gates-gates.ensures.gates, c.requires, c.place.ensures)) in
+    rw c.new-root.ensures (below, tt)
 
 pub loop-place-preserved : goal.loop-place-preserved
 loop-place-preserved c =
@@ -43,12 +61,3 @@ returns-clause-formula c =
     ∙ ap (λ formula. with_clauses formula ((c.new-root.result ∷ []) ∷ [])) whole
     ∙ ap (λ l. with_clauses (record { vars = length gates; clauses = value_clauses gates }) ((l ∷ []) ∷ [])) (c.new-root.ensures ∙ ap₂ (λ vs place. literal (get_or vs place 0) false) is c.place.ensures)
     ∙ ap (λ gates. circuit_formula gates c.args.root) c.gates-gates.ensures.gates
-
-pub returns-clause-completion : goal.returns-clause-completion
-returns-clause-completion c = one_completion c.args.circuit.now c.gates-gates.ensures.circuit
-
-pub returns-clause-models : goal.returns-clause-models
-returns-clause-models c = models_of c.args.circuit.now c.args.root c.gates-gates.ensures.circuit c.requires
-
-pub returns-clause-least : goal.returns-clause-least
-returns-clause-least c = begins_least c.args.circuit.now c.args.root c.gates-gates.ensures.circuit c.requires

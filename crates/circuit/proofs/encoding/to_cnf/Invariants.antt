@@ -1,6 +1,6 @@
-use Rattle.std.proofs.Common.{◌≡◌, drop}
-use Rattle.circuit.specs.Clauses.{clauses_of, variables, value_clauses, with_clauses}
-use Rattle.std.proofs.Common.{length}
+use Rattle.std.proofs.Common.{◌≡◌, drop, length}
+use Rattle.circuit.specs.Clauses.{clauses_of, variables, value_clauses}
+use Rattle.cnf.specs.Clauses.{with_clauses}
 use Rattle.circuit.proofs.encoding.to_cnf.Given as goal
 
 abbrev pub invariant-loop-place : goal.invariant-loop-place

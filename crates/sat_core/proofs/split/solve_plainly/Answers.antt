@@ -4,8 +4,8 @@ use Rattle.certificates.specs.Writable.{IsWritable}
 use Rattle.sat_core.proofs.Splitting.{accepted, ends_empty}
 use Rattle.sat_core.proofs.split.solve_plainly.Goals as goal
 
-pub returns : goal.returns
-returns c =
+pub returns-clause-answers : goal.returns-clause-answers
+returns-clause-answers c =
     let told = rw c.in-Some.is at c.in_ok-split.ensures.splits in
     let items : c.of.result ≡ map item.Add c.split.new.steps.items = c.of.ensures ∙ c.in_ok-items.ensures in
     record {

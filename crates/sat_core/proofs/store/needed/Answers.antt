@@ -16,7 +16,7 @@ returns-in-Conflict-clause-follows c =
     let known = c.in-Some.ensures in
     let long : length c.args.table.now ≡ c.args.cnf.now.vars = ap length c.requires.blank ∙ length-replicate {A = Option Bool} c.args.cnf.now.vars None in
     let count : c.len.result ≡ c.args.cnf.now.vars = c.len.ensures ∙ long in
-    let ranged : IsInRange c.args.cnf.now.vars c.args.lits.now = subst (λ n. IsInRange n c.args.lits.now) count c.if-not-are_in_range.ensures in
+    let ranged : IsInRange c.args.cnf.now.vars c.args.lits.now = subst (λ n. IsInRange n c.args.lits.now) count c.if-not-are_in_range.ensures.yes in
     let least : c.loop-hint.needs ≤ c.max-needs.result = omega (arith, c.max-needs.ensures) in
     let more : c.in-Some.more ≤ c.max-needs.result = omega (arith, c.max-needs.ensures) in
     let there : c.max-needs.result ≤ length c.args.cnf.now.clauses = omega (arith, c.max-needs.ensures, r.there, known.there) in

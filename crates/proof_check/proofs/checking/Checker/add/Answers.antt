@@ -13,7 +13,7 @@ returns-in-Some-clause-fault c =
     let inside = c.self.inside in
     let step = c.args.step.now in
     let before : Checking = record { vars = length inside.table; progress = record { live = inside.live; items = inside.items; steps = inside.steps; refuted = inside.refuted } } in
-    let within : IsInRange (length inside.table) step.clause = subst (λ n. IsInRange n step.clause) c.len.ensures (OnTrue_at c.if-not-is_in_range.false c.is_in_range.ensures.yes) in
+    let within : IsInRange (length inside.table) step.clause = subst (λ n. IsInRange n step.clause) c.len.ensures (subst (IsInRange c.len.result) c.lits.ensures (OnTrue_at c.if-not-are_in_range.false c.are_in_range.ensures.yes)) in
     inr (subst (λ v. item_fault v (items.Add step) ≡ Some (fault.Hint (inside.steps + 1) c.in-Some.place)) c.self.view_is
     (hint_is_fault before step c.in-Some.place (is_in_range-from (length inside.table) step.clause within) (sym c.in-Some.is ∙ c.step_fault.ensures.fault)))
 
@@ -22,6 +22,6 @@ returns-clause-fault c =
     let inside = c.self.inside in
     let step = c.args.step.now in
     let before : Checking = record { vars = length inside.table; progress = record { live = inside.live; items = inside.items; steps = inside.steps; refuted = inside.refuted } } in
-    let within : IsInRange (length inside.table) step.clause = subst (λ n. IsInRange n step.clause) c.len.ensures (OnTrue_at c.if-not-is_in_range.false c.is_in_range.ensures.yes) in
+    let within : IsInRange (length inside.table) step.clause = subst (λ n. IsInRange n step.clause) c.len.ensures (subst (IsInRange c.len.result) c.lits.ensures (OnTrue_at c.if-not-are_in_range.false c.are_in_range.ensures.yes)) in
     subst (λ v. item_fault v (items.Add step) ≡ None) c.self.view_is
     (step_is_right before step (is_in_range-from (length inside.table) step.clause within) (sym c.in_default.is ∙ c.step_fault.ensures.fault))

@@ -1,0 +1,9 @@
+pub mod LineTexts
+pub mod ClauseWords
+pub mod Fronts
+pub mod Readings
+pub mod Heads
+pub mod Ends
+pub mod AnswerTexts
+pub mod Refusals
+pub mod OneFormula

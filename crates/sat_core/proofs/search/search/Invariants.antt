@@ -1,5 +1,0 @@
-use Rattle.std.proofs.Common.{◌≡◌}
-use Rattle.sat_core.proofs.search.search.Given as goal
-
-abbrev pub invariant-loop : goal.invariant-loop
-invariant-loop l = l.store ≡ l.fn.store

@@ -1,4 +1,0 @@
-use Rattle.scenarios_solver.proofs.searches.answer.Given as goal
-
-abbrev pub ghosts-found : goal.ghosts-found
-ghosts-found a = record { name = a.blank.name; parts = a.blank.parts }

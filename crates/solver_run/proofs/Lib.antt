@@ -1,0 +1,4 @@
+pub mod Writing
+pub mod Readings
+pub mod Runs
+pub mod CommandWords

@@ -1,0 +1,28 @@
+use Rattle.std.proofs.Common.{inl, inr}
+use Rattle.std.proofs.lemmas.Result.{err_from_is_err_and}
+use Rattle.solver_run.specs.Run.{bad_certificate, other_version}
+use Rattle.solver_run.proofs.Readings.{long_is_no_certificate, unread_weaker}
+use Rattle.solver_run.proofs.unread.read_proof.Goals as goal
+
+pub returns-in_err-bytes-clause-unread : goal.returns-in_err-bytes-clause-unread
+returns-in_err-bytes-clause-unread g c =
+    let p = err_from_is_err_and c.from_residual.result c.from_residual.ensures.1 in
+    rw (p.1, p.2) (unread_weaker _ _ c.args.file.now _ _ (long_is_no_certificate (g.F.Files.holds c.args.files.now) c.args.file.now) c.in_err-bytes.field-0.0 c.in_err-bytes.ensures.unread)
+
+pub returns-in-Err-Malformed-clause-unread : goal.returns-in-Err-Malformed-clause-unread
+returns-in-Err-Malformed-clause-unread g c =
+    let gives = rw (← c.as_slice.ensures.value) at c.in_ok-bytes.ensures.gives in
+    let refused = rw c.in-Err-Malformed.field-0-is at c.in-Err-Malformed.ensures.refused in
+    elim refused [
+      | inl same ↦ absurd (cc)
+      | inr refuses ↦ (bad_certificate c.as_slice.result.now c.in-Err-Malformed.line gives refuses, c.in_ok-bytes.ensures.read)
+    ]
+
+pub returns-in-Err-Version-clause-unread : goal.returns-in-Err-Version-clause-unread
+returns-in-Err-Version-clause-unread g c =
+    let gives = rw (← c.as_slice.ensures.value) at c.in_ok-bytes.ensures.gives in
+    let refused = rw c.in-Err-Version.field-0-is at c.in-Err-Version.ensures.refused in
+    elim refused [
+      | inl same ↦ absurd (cc)
+      | inr refuses ↦ (other_version c.as_slice.result.now c.in-Err-Version.line gives refuses, c.in_ok-bytes.ensures.read)
+    ]

@@ -1,0 +1,6 @@
+pub mod Causes
+pub mod Stores
+pub mod RunLines
+pub mod Tasks
+pub mod Run
+pub mod Inside
