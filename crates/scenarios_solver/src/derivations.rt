@@ -1,6 +1,6 @@
 use certificates::{
-    CertFault, Certificate, Item, one_certificate, read_certificate, write_certificate,
-    written_is_read,
+    CertFault, Certificate, Item, Numbers, Step, one_certificate, read_certificate,
+    write_certificate, written_is_read,
 };
 use cnf::{Clause, Cnf, CnfFault, Lit};
 use proof_check::{
@@ -153,6 +153,60 @@ qed => not empty 0 0
 fn derivations_are_judged_and_trimmed(rt: HostRuntime) -> Result<(), Fail> {
     let text = answered(rt.alloc(), DERIVATIONS, "\n", push_verdict)?;
     assert_eq!(rt; text.as_str(), DERIVATIONS);
+    Ok(())
+}
+
+/// `x`, and `not x`.
+fn both_signs(alloc: Global) -> Result<Cnf, CnfFault> {
+    let mut cnf = Cnf::new(alloc, 1);
+    push(alloc, &mut cnf, &[Lit::new(0, false)])?;
+    push(alloc, &mut cnf, &[Lit::new(0, true)])?;
+    Ok(cnf)
+}
+
+/// The step of the empty clause with these hints, which may be 0, as no text has them; no step where there are none.
+fn one_step(alloc: Global, given: &str) -> Result<Derivation, Fail> {
+    let mut hints = Vec::new(alloc);
+    for number in given.split_whitespace() {
+        hints.push(number.parse::<usize>()?)?;
+    }
+    let mut items = Vec::new(alloc);
+    if !hints.is_empty() {
+        items.push(Item::Add(Step {
+            clause: Clause::from_lits(alloc, &[])?,
+            hints: Numbers::of(hints),
+        }))?;
+    }
+    Ok(Derivation::of(items))
+}
+
+/// Writes what is said of one step over `x` and `not x`.
+fn push_one_step(alloc: Global, given: &str, text: &mut String) -> Result<(), Fail> {
+    let cnf = match both_signs(alloc) {
+        Ok(cnf) => cnf,
+        Err(_) => return Err("no clauses".into()),
+    };
+    match check(alloc, &cnf, &one_step(alloc, given)?) {
+        Ok(()) => Ok(text.push_str("accepted")?),
+        Err(fault) => push_fault(fault, text),
+    }
+}
+
+/// The hints of one step with the empty clause: both clauses, one of them twice, none and so no step, and numbers of no clause.
+const ONE_STEP: &str = "1 2 => accepted
+2 1 => accepted
+2 2 => hint 1 2
+1 => hint 1 2
+ => not empty 0 0
+0 => hint 1 1
+1 0 => hint 1 2
+3 => hint 1 1
+";
+
+#[test]
+fn one_step_over_one_variable(rt: HostRuntime) -> Result<(), Fail> {
+    let text = answered(rt.alloc(), ONE_STEP, "\n", push_one_step)?;
+    assert_eq!(rt; text.as_str(), ONE_STEP);
     Ok(())
 }
 
