@@ -15,6 +15,7 @@ each run:
 
 import os
 import random
+import resource
 import subprocess
 import sys
 import tempfile
@@ -28,11 +29,16 @@ GATES = 200000
 HARD = ((1, 120), (2, 140), (3, 160))
 
 
-def timed(words):
-    """The status, the front of the output, seconds and the most memory in megabytes, but not less than what this script takes."""
+def timed(words, folder=None, limits=()):
+    """The status, the front of the output, seconds and the most memory in megabytes, but not less than what this script takes.
+
+    The limits are pairs of a name of `resource` and a number; the system ends the child that goes over one.
+    """
     began = time.perf_counter()
     with tempfile.TemporaryFile() as out:
-        child = subprocess.Popen(words, stdout=out, stderr=subprocess.DEVNULL)
+        child = subprocess.Popen(words, cwd=folder, stdout=out, stderr=subprocess.DEVNULL)
+        for name, most in limits:
+            resource.prlimit(child.pid, name, (most, most))
         _, status, used = os.wait4(child.pid, 0)
         spent = time.perf_counter() - began
         out.seek(0)

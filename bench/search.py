@@ -90,4 +90,5 @@ def main():
         print(f"| {name} | {lines.count(chr(10))} | {spent:.1f} | {first} |", flush=True)
 
 
-main()
+if __name__ == "__main__":
+    main()

@@ -11,3 +11,6 @@ pub mod MissedEntries
 pub mod Dictionary
 pub mod FirstOrNone
 pub mod OneFirst
+pub mod PacketTests
+pub mod SmallEnds
+pub mod Comparisons

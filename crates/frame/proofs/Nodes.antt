@@ -11,20 +11,23 @@ use Rattle.circuit.proofs.Extend.{AreNodes-extends, Extends-trans, Grows-extends
 use Rattle.ios_acl.specs.declared.packet.Packet.{Packet}
 use Rattle.ios_config.specs.declared.request.Field.{Field}
 use Rattle.frame.specs.Bits.{field_bits}
-use Rattle.frame.specs.Meaning.{Adds, HasBits, Means}
+use Rattle.frame.specs.Meaning.{Adds, HasBits, HasInputs, Means}
 use Rattle.frame.specs.Scenario.{request_of}
 use Rattle.frame.proofs.FieldPlaces.{field_value}
 
 -- more gates without inputs leave the bits as they are
-pub HasBits-extends : (old new : List Gate) (bits : List ℕ) → HasBits old bits → Grows old new → HasBits new bits
-HasBits-extends old new bits has grows =
+pub HasInputs-extends : (count : ℕ) (old new : List Gate) (bits : List ℕ) → HasInputs count old bits → Grows old new → HasInputs count new bits
+HasInputs-extends count old new bits has grows =
     let extends : Extends old new = Grows-extends old new grows in
     record {
-      nodes = AreNodes-extends old new extends bits has.nodes;
-      count = has.count;
+      nodes_within = AreNodes-extends old new extends bits has.nodes_within;
+      count_is = has.count_is;
       inputs = grows.inputs ∙ has.inputs;
-      values = λ inputs long. map-extends old new extends inputs bits has.nodes ∙ has.values inputs long;
+      values = λ inputs long. map-extends old new extends inputs bits has.nodes_within ∙ has.values inputs long;
     }
+
+pub HasBits-extends : (old new : List Gate) (bits : List ℕ) → HasBits old bits → Grows old new → HasBits new bits
+HasBits-extends old new bits has grows = HasInputs-extends 126 old new bits has grows
 
 -- a circuit with one input more
 pub input_more : (gates : List Gate) → input_count (with_input gates) ≡ input_count gates + 1

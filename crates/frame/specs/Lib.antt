@@ -5,3 +5,7 @@ pub mod Bits
 pub mod Meaning
 pub mod Relevance
 pub mod Asking
+pub mod SmallLists
+pub mod Comparing
+pub mod PacketDiagrams
+pub mod Verdicts

@@ -16,12 +16,16 @@ use Rattle.frame.specs.Bits.{IsPacketOf}
 use Rattle.frame.specs.Question.{passes}
 use Rattle.frame.specs.Scenario.{IsNotBehind, request_of}
 
+-- the circuit has so many inputs, and these are their nodes in order
+pub record HasInputs (count : ℕ) (gates : List Gate) (nodes : List ℕ) : Type 0 where
+  pub nodes_within : AreNodes gates nodes
+  pub count_is : length nodes ≡ count
+  pub inputs : input_count gates ≡ count
+  pub values : (inputs : List Bool) → length inputs ≡ count → map (value gates inputs) nodes ≡ inputs
+
 -- the circuit has the bits of a packet as its inputs, in order
-pub record HasBits (gates : List Gate) (bits : List ℕ) : Type 0 where
-  pub nodes : AreNodes gates bits
-  pub count : length bits ≡ 126
-  pub inputs : input_count gates ≡ 126
-  pub values : (inputs : List Bool) → length inputs ≡ 126 → map (value gates inputs) bits ≡ inputs
+abbrev pub HasBits : List Gate → List ℕ → Type 0
+HasBits gates bits = HasInputs 126 gates bits
 
 -- the node is true for the packets that pass the test
 pub record Means (gates : List Gate) (node : ℕ) (meaning : Packet → Bool) : Type 0 where

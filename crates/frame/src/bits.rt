@@ -23,6 +23,24 @@ pub(crate) fn field_bits<T: Copy>(bits: &[T], field: Field) -> &[T]
     }
 }
 
+/// The first bit of a field among the 126 bits of a packet, and how many it has; none for a field that is not the packet's.
+pub(crate) fn field_place(field: Field) -> (u32, u32)
+    ensures first { result.0 ≡ first_bit field }
+    ensures width { result.1 ≡ end_bit field - first_bit field }
+{
+    match field {
+        Field::SrcIn => (0, 32),
+        Field::DstIn => (32, 32),
+        Field::SportIn => (64, 16),
+        Field::DportIn => (80, 16),
+        Field::Proto => (96, 8),
+        Field::Flags => (104, 6),
+        Field::IcmpType => (110, 8),
+        Field::IcmpCode => (118, 8),
+        _ => (0, 0),
+    }
+}
+
 /// The packet of the first 126 values of a model: the bits of its fields in order, of each the highest first.
 pub fn model_packet(model: &[bool]) -> Packet
     requires { 126 ≤ length model.now }

@@ -6,14 +6,21 @@
 #![tactic(auto)]
 
 mod bits;
+mod comparison;
 mod decision;
+mod difference;
+mod entry_diagram;
+mod inputs;
 mod laws;
+mod list_diagram;
 mod matching;
 mod packet_circuit;
+mod packet_diagrams;
 mod question;
 mod relevance;
 
 pub use bits::model_packet;
+pub use comparison::{Comparison, comparison_clauses};
 pub use laws::{first_or_none, one_first, shown_once};
 pub use question::{Pattern, Test, question_clauses, visible};
 pub use std::alloc::AllocError as NoMemory;

@@ -1,14 +1,20 @@
 ghost use Rattle.std.specs.Prelude.{◌≡◌, ◌<◌, not, Bool, List, length, IfOk};
 ghost use Rattle.std.specs.List.{list_any, list_all};
 ghost use Rattle.bit_patterns.specs.Patterns.{agrees, within};
-ghost use Rattle.circuit.specs.Value.{AreNodes, Extends, value as node_value};
+ghost use Rattle.circuit.specs.Value.{AreNodes, Extends, input_count, value as node_value};
+ghost use Rattle.decision_diagram.specs.Table.{IsOf};
+ghost use Rattle.ios_acl.specs.declared.packet.Packet.{Packet};
 ghost use Rattle.frame.specs.Meaning.{Adds, AskFor};
+ghost use Rattle.frame.specs.PacketDiagrams.{MeansIn};
 ghost use Rattle.frame.specs.Scenario.{request_of};
 
 use crate::NoMemory;
 use crate::bits::field_bits;
+use crate::inputs::inputs;
+use crate::packet_diagrams::PacketDiagrams;
 use circuit::{Circuit, Node, to_cnf};
 use cnf::Cnf;
+use decision_diagram::{Diagram, gates};
 use ios_config::Field;
 use std::alloc::Global;
 use std::marker::Model;
@@ -35,11 +41,7 @@ impl Model for PacketCircuit {
 impl PacketCircuit {
     /// A circuit of the inputs alone.
     pub(crate) fn new(alloc: Global) -> Result<PacketCircuit, NoMemory> {
-        let mut circuit = Circuit::new(alloc);
-        let mut bits = Vec::new(alloc);
-        for _ in 0..126usize {
-            bits.push(circuit.input()?)?;
-        }
+        let (circuit, bits) = inputs(alloc, 126)?;
         Ok(PacketCircuit { circuit, bits })
     }
 
@@ -109,6 +111,30 @@ impl PacketCircuit {
             node_value self.new inputs node ≡ not (node_value self.old inputs part)) }
     {
         self.circuit.not(part)
+    }
+
+    /// Adds the guarded gates of a diagram: a node that has its value.
+    pub(crate) fn diagram(
+        &mut self,
+        alloc: Global,
+        table: &PacketDiagrams,
+        root: Diagram,
+    ) -> Result<Node, NoMemory>
+        requires { IsOf table.now root }
+        ensures { IfOk result (λ node. (meaning : Packet → Bool) → MeansIn table.now root meaning
+            → Adds self.old self.new node meaning) }
+    {
+        let bits = self.bits.as_slice();
+        let node = gates(alloc, &mut self.circuit, table.table(), root, bits)?;
+        Ok(node)
+    }
+
+    /// The gates alone.
+    pub(crate) fn circuit(&self) -> &Circuit
+        ensures circuit { result.now ≡ self.now }
+        ensures inputs { input_count self.now ≡ 126 }
+    {
+        &self.circuit
     }
 
     /// The clauses of the node. The least of their models begins with the bits of the least packet for which it is true;

@@ -1,4 +1,4 @@
-//! The program `margrave_sat`: the search and the checker alone, over clauses in DIMACS form.
+//! The program `margrave_sat`: the search and the checker alone, over clauses in DIMACS form or those of two access lists.
 //!
 //! `solver_run::run` is the whole program as one call, over any files, any sink and any store. `main` hands it the system's
 //! words, the real file system and standard output, and ends with its status. Nothing stands above.

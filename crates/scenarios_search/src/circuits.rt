@@ -116,7 +116,11 @@ fn masked_agrees_with_no_value_above_the_bits(rt: HostRuntime) -> Result<(), Fai
 }
 
 /// So many bits that are inputs.
-fn inputs(alloc: Global, circuit: &mut Circuit, count: usize) -> Result<Vec<Node>, NoMemory>
+pub(crate) fn inputs(
+    alloc: Global,
+    circuit: &mut Circuit,
+    count: usize,
+) -> Result<Vec<Node>, NoMemory>
     ensures nodes { IfOk result (λ bits. AreNodes circuit.new bits.items) }
     ensures count { IfOk result (λ bits. length bits.items ≡ count) }
 {
@@ -143,7 +147,7 @@ fn least_in_range(
 }
 
 /// The number that the values are the bits of, highest first.
-fn number_of(values: &[bool]) -> u128 {
+pub(crate) fn number_of(values: &[bool]) -> u128 {
     let mut number: u128 = 0;
     for value in values {
         number = number.wrapping_mul(2).wrapping_add(u128::from(*value));

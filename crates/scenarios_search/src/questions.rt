@@ -116,7 +116,7 @@ fn entry_named(name: &str) -> Result<Entry, Fail> {
 }
 
 /// The entries of these names, each with a blank behind it.
-fn entries_named(alloc: Global, names: &str) -> Result<Vec<Entry>, Fail> {
+pub(crate) fn entries_named(alloc: Global, names: &str) -> Result<Vec<Entry>, Fail> {
     let mut entries = Vec::new(alloc);
     let mut rest = names;
     for _ in 0..names.len() {

@@ -141,13 +141,13 @@ gates 1000 |  |  => 0 1002 nodes
 ~
 gates 0 |  |  => 0 2 nodes
 ~
-solve f g |  |  => 2 usage: margrave_sat solve FILE [--certificate OUT] | check FILE CERTIFICATE | gates COUNT
+solve f g |  |  => 2 usage: margrave_sat solve FILE [--certificate OUT] | check FILE CERTIFICATE | lists differ|widen FIRST SECOND | gates COUNT
 ~
-gates -1 |  |  => 2 usage: margrave_sat solve FILE [--certificate OUT] | check FILE CERTIFICATE | gates COUNT
+gates -1 |  |  => 2 usage: margrave_sat solve FILE [--certificate OUT] | check FILE CERTIFICATE | lists differ|widen FIRST SECOND | gates COUNT
 ~
-solve |  |  => 2 usage: margrave_sat solve FILE [--certificate OUT] | check FILE CERTIFICATE | gates COUNT
+solve |  |  => 2 usage: margrave_sat solve FILE [--certificate OUT] | check FILE CERTIFICATE | lists differ|widen FIRST SECOND | gates COUNT
 ~
-solve f --proof out |  |  => 2 usage: margrave_sat solve FILE [--certificate OUT] | check FILE CERTIFICATE | gates COUNT
+solve f --proof out |  |  => 2 usage: margrave_sat solve FILE [--certificate OUT] | check FILE CERTIFICATE | lists differ|widen FIRST SECOND | gates COUNT
 ~
 ";
 
@@ -214,5 +214,84 @@ fn push_unstored(alloc: Global, row: &str, text: &mut String) -> Result<(), Fail
 fn a_failing_store_ends_the_run(rt: HostRuntime) -> Result<(), Fail> {
     let text = answered(rt.alloc(), UNSTORED, "~\n", push_unstored)?;
     assert_eq!(rt; text.as_str(), UNSTORED);
+    Ok(())
+}
+
+/// A comparison, a configuration as `f`, another as `g`, and the status and the text of the run; of a model the two
+/// verdicts, and the bits of the packet that are 1. A `;` is a line feed.
+const COMPARED: &str =
+    "lists differ f g | access-list 100 permit tcp any any; | access-list 100 permit tcp any any; => 20 s UNSATISFIABLE
+~
+lists differ f g | access-list 1 permit any; | hostname b;ip access-list standard other; remark all; permit any; => 20 s UNSATISFIABLE
+~
+lists differ f g | access-list 100 permit tcp any any eq 80; | access-list 100 permit tcp any any; => 10 -1 2 104 105
+~
+lists differ f g | access-list 100 permit tcp any any; | access-list 100 permit tcp any any eq 80; => 10 1 -2 104 105
+~
+lists widen f g | access-list 100 permit tcp any any eq 80; | access-list 100 permit tcp any any; => 10 -1 2 104 105
+~
+lists widen f g | access-list 100 permit tcp any any; | access-list 100 permit tcp any any eq 80; => 20 s UNSATISFIABLE
+~
+lists widen f g | access-list 1 permit any; | hostname b;access-list 1 permit; => 1 refused: g:2: NoConfiguration
+~
+lists differ f g | access-list 1 permit; | access-list 1 permit; => 1 refused: f:1: NoConfiguration
+~
+lists differ f g | access-list 1 permit any;access-list 2 permit any; | access-list 1 permit any; => 1 refused: f:0: NotOneList
+~
+lists differ f g | access-list 1 permit any; | hostname b; => 1 refused: g:0: NotOneList
+~
+lists differ f g | access-list 1 permit any; | ip access-list standard other; remark none; => 1 refused: g:0: NotOneList
+~
+lists differ x g |  | access-list 1 permit any; => 3 read fault: x
+~
+lists widen f x | access-list 1 permit any; |  => 3 read fault: x
+~
+lists same f g | access-list 1 permit any; | access-list 1 permit any; => 2 usage: margrave_sat solve FILE [--certificate OUT] | check FILE CERTIFICATE | lists differ|widen FIRST SECOND | gates COUNT
+~
+lists differ f | access-list 1 permit any; |  => 2 usage: margrave_sat solve FILE [--certificate OUT] | check FILE CERTIFICATE | lists differ|widen FIRST SECOND | gates COUNT
+~
+";
+
+/// Writes the first two literals of a model, and of the next 126 those that are positive.
+fn push_shown(literals: &str, text: &mut String) -> Result<(), Fail> {
+    for (place, literal) in literals.split(' ').take(128).enumerate() {
+        if place < 2 {
+            write!(text, "{literal}")?;
+        } else if !literal.starts_with('-') {
+            write!(text, " {literal}")?;
+        }
+        if place == 0 {
+            text.push(' ')?;
+        }
+    }
+    text.push('\n')?;
+    Ok(())
+}
+
+fn push_comparison(alloc: Global, row: &str, text: &mut String) -> Result<(), Fail> {
+    let mut said = String::new(alloc);
+    push_row(
+        alloc,
+        row,
+        MemSink::new(alloc),
+        MemStore::new(alloc),
+        &mut said,
+    )?;
+    match said.as_str().split_once(" s SATISFIABLE\nv ") {
+        Some((status, literals)) => {
+            write!(text, "{status} ")?;
+            push_shown(literals, text)
+        }
+        None => {
+            text.push_str(said.as_str())?;
+            Ok(())
+        }
+    }
+}
+
+#[test]
+fn lists_are_compared(rt: HostRuntime) -> Result<(), Fail> {
+    let text = answered(rt.alloc(), COMPARED, "~\n", push_comparison)?;
+    assert_eq!(rt; text.as_str(), COMPARED);
     Ok(())
 }

@@ -1,5 +1,5 @@
 -- A run: what it does with the files, the store and the sink, and what it ends with.
-use Rattle.std.specs.Prelude.{◌≡◌, ℕ, ◌<◌, ◌≤◌, Bool, true, false, List, [], ◌∷◌, ◌++◌, length, Option, Some, None, IfSome}
+use Rattle.std.specs.Prelude.{◌≡◌, ℕ, Bool, true, false, List, [], ◌∷◌, ◌++◌, length, Option, Some, None}
 use Rattle.std.specs.List.{IsDistinct}
 use Rattle.mg_outside.specs.Effects.{Effects, HasRead, HasWritten}
 use Rattle.mg_outside.specs.Logs.{FileLog, SinkLog}
@@ -20,27 +20,18 @@ use Rattle.dimacs.specs.declared.fault.DimacsFault.TheVariants as dimacs_fault
 use Rattle.dimacs.specs.declared.fault.DimacsReason.{DimacsReason}
 use Rattle.dimacs.specs.Reading as dimacs
 use Rattle.dimacs.specs.Text.{model_text, no_model_text}
+use Rattle.ios_acl.specs.declared.entry.Entry.{Entry}
+use Rattle.frame.specs.declared.comparison.Comparison.{Comparison}
+use Rattle.frame.specs.Comparing.{AreClausesOfTwo}
 use Rattle.solver_run.specs.declared.cause.Cause.{Cause}
 use Rattle.solver_run.specs.declared.cause.Cause.TheVariants as cause
 use Rattle.solver_run.specs.declared.reason.Reason.{Reason}
 use Rattle.solver_run.specs.declared.reason.Reason.TheVariants as reason
 use Rattle.solver_run.specs.Stores.{HasStored, Stored, StoreLog, store_failed, stored_file, stored_nothing}
 use Rattle.solver_run.specs.RunLines.{accepted_line, check_reason, dimacs_reason, fault_line, nodes_line, refused_line, store_line, usage}
-use Rattle.solver_run.specs.Tasks.{Task, solve, certify, check, gates, IsForm, file_of, reads_of, searched}
-
--- the most bytes of a file that is read
-abbrev pub max_bytes : ℕ
-max_bytes = 268435456
-
--- more bytes than that were counted
-pub record IsTooLong (told : Option (List ℕ)) : Type 0 where
-  pub given : ℕ
-  pub more : max_bytes < given
-  pub held : IfSome told (λ held. given ≤ length held)
-
--- which is a fault of the file as a whole
-abbrev pub IsTooLongAt : Option (List ℕ) → ℕ → Reason → Type 0
-IsTooLongAt told line why = (line ≡ 0) × (why ≡ reason.TooLong) × IsTooLong told
+use Rattle.solver_run.specs.Tasks.{Task, solve, certify, check, compare, gates, IsForm, file_of, reads_of, searched}
+use Rattle.solver_run.specs.TooLong.{IsTooLong, max_bytes}
+use Rattle.solver_run.specs.Lists.{HoldsList, IsNoList}
 
 -- the file's bytes are those of the formula
 pub record HoldsFormula (told : List ℕ → Option (List ℕ)) (file : List ℕ) (formula : Formula) : Type 0 where
@@ -116,6 +107,30 @@ pub data Ends (told : List ℕ → Option (List ℕ)) (task : Task)
       → fault_of formula.vars formula.clauses certificate.derivation ≡ Some fault
       → check_reason fault ≡ Some why
       → Ends told task (file ∷ name ∷ []) None stored_nothing cause.Refused (refused_line name 0 why)
+  -- a comparison: the first file has no list, or the second has none, or each has one
+  unread_first : (asked : Comparison) (first second : List ℕ) → task ≡ compare asked first second
+      → Ends told task (first ∷ []) (Some first) stored_nothing cause.ReadFault (fault_line first)
+  no_first_list : (asked : Comparison) (first second : List ℕ) (line : ℕ) (why : Reason)
+      → task ≡ compare asked first second → IsNoList told first line why
+      → Ends told task (first ∷ []) None stored_nothing cause.Refused (refused_line first line why)
+  unread_second : (asked : Comparison) (first second : List ℕ) (entries : List Entry)
+      → task ≡ compare asked first second → HoldsList told first entries
+      → Ends told task (first ∷ second ∷ []) (Some second) stored_nothing cause.ReadFault (fault_line second)
+  no_second_list : (asked : Comparison) (first second : List ℕ) (entries : List Entry) (line : ℕ)
+      (why : Reason) → task ≡ compare asked first second → HoldsList told first entries
+      → IsNoList told second line why
+      → Ends told task (first ∷ second ∷ []) None stored_nothing cause.Refused (refused_line second line why)
+  -- the clauses that ask for a packet have a least model, or none
+  packet_shown : (asked : Comparison) (first second : List ℕ) (entries others : List Entry) (formula : Formula)
+      (values : List Bool) → task ≡ compare asked first second
+      → HoldsList told first entries → HoldsList told second others
+      → AreClausesOfTwo asked entries others formula → IsLeast formula.vars formula.clauses values
+      → Ends told task (first ∷ second ∷ []) None stored_nothing cause.Satisfiable (model_text values)
+  no_packet : (asked : Comparison) (first second : List ℕ) (entries others : List Entry)
+      (formula : Formula) (items : List Item) → task ≡ compare asked first second
+      → HoldsList told first entries → HoldsList told second others
+      → AreClausesOfTwo asked entries others formula → IsRefutation formula.vars formula.clauses items
+      → Ends told task (first ∷ second ∷ []) None stored_nothing cause.Unsatisfiable no_model_text
   counted : (count nodes : ℕ) → task ≡ gates count → AreNodesOf nodes
       → Ends told task [] None stored_nothing cause.Done (nodes_line nodes)
 

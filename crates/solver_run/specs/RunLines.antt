@@ -9,7 +9,7 @@ use Rattle.solver_run.specs.declared.reason.Reason.{Reason}
 use Rattle.solver_run.specs.declared.reason.Reason.TheVariants as reason
 
 unfoldable pub usage : List ℕ
-usage = codes "usage: margrave_sat solve FILE [--certificate OUT] | check FILE CERTIFICATE | gates COUNT\n"
+usage = codes "usage: margrave_sat solve FILE [--certificate OUT] | check FILE CERTIFICATE | lists differ|widen FIRST SECOND | gates COUNT\n"
 
 unfoldable pub fault_line : List ℕ → List ℕ
 fault_line file = codes "read fault: " ++ file ++ codes "\n"
@@ -50,6 +50,8 @@ reason_words (reason.StepVariable step) = codes "Variable step " ++ decimal step
 reason_words (reason.Hint step place) = codes "Hint step " ++ (decimal step ++ (codes " place " ++ decimal place))
 reason_words (reason.Deletion item place) = codes "Deletion item " ++ (decimal item ++ (codes " place " ++ decimal place))
 reason_words reason.NotEmpty = codes "NotEmpty"
+reason_words reason.NoConfiguration = codes "NoConfiguration"
+reason_words reason.NotOneList = codes "NotOneList"
 
 -- line 0 is the file as a whole
 unfoldable pub refused_line : List ℕ → ℕ → Reason → List ℕ

@@ -6,6 +6,7 @@ use crate::cause::Cause;
 use crate::check::check;
 use crate::endings::say;
 use crate::gates::gates;
+use crate::lists::compare;
 use crate::run_lines::USAGE;
 use crate::solve::{certify, solve};
 use crate::store::Store;
@@ -13,7 +14,7 @@ use crate::words::{Command, command_of};
 use mg_outside::{Files, Sink};
 use std::alloc::Global;
 
-/// The whole program: carries out what the words behind its name ask for. A file of clauses or a certificate is read once; the
+/// The whole program: carries out what the words behind its name ask for. Each file is read once; the
 /// certificate of a search is stored before the answer is written, which is one write.
 pub fn run<F: Files, S: Sink, T: Store>(
     alloc: Global,
@@ -35,6 +36,7 @@ pub fn run<F: Files, S: Sink, T: Store>(
         Command::Solve(file) => solve(alloc, file, files, out),
         Command::Certify(file, name) => certify(alloc, file, name, files, out, store),
         Command::Check(file, name) => check(alloc, file, name, files, out),
+        Command::Compare(asked, first, second) => compare(alloc, asked, first, second, files, out),
         Command::Gates(count) => gates(alloc, count, out),
     }
 }

@@ -29,6 +29,10 @@ pub enum Reason {
     Deletion { item: usize, place: usize },
     /// No step has the empty clause.
     NotEmpty,
+    /// No configuration goes on so.
+    NoConfiguration,
+    /// No access list of the configuration has entries, or more than one has.
+    NotOneList,
 }
 
 /// The reason of a text in DIMACS form.

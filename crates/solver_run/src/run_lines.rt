@@ -7,7 +7,7 @@ use std::alloc::{AllocError, Global};
 
 /// What is written where the words are not of the stated form.
 pub const USAGE: &str =
-    "usage: margrave_sat solve FILE [--certificate OUT] | check FILE CERTIFICATE | gates COUNT\n";
+    "usage: margrave_sat solve FILE [--certificate OUT] | check FILE CERTIFICATE | lists differ|widen FIRST SECOND | gates COUNT\n";
 
 /// What is written of a file whose read failed.
 #[tactic(auto, unfolding(crate::specs::RunLines::fault_line))]
@@ -57,6 +57,8 @@ fn reason_text(alloc: Global, reason: Reason) -> Result<String, AllocError>
         Reason::Hint { step, place } => format!(in alloc; "Hint step {step} place {place}"),
         Reason::Deletion { item, place } => format!(in alloc; "Deletion item {item} place {place}"),
         Reason::NotEmpty => format!(in alloc; "NotEmpty"),
+        Reason::NoConfiguration => format!(in alloc; "NoConfiguration"),
+        Reason::NotOneList => format!(in alloc; "NotOneList"),
     }
 }
 

@@ -19,7 +19,7 @@ use sat_core::Solved;
 use std::alloc::Global;
 
 /// Ends the run with a model.
-fn say_model<S: Sink>(alloc: Global, values: &[bool], out: &mut S) -> Cause
+pub fn say_model<S: Sink>(alloc: Global, values: &[bool], out: &mut S) -> Cause
     requires { length values.now < 2 ^ 62 }
     ensures { Says (S.log out.old) (S.log out.new) cause.Satisfiable (model_text values.now) result }
 {

@@ -9,11 +9,17 @@ use Rattle.solver_run.specs.declared.unread.Unread.{Unread}
 use Rattle.solver_run.specs.declared.unread.Unread.TheVariants as unread
 use Rattle.certificates.specs.declared.derivation.Item.{Item}
 use Rattle.certificates.specs.Text.{certificate_text}
-use Rattle.dimacs.specs.Text.{no_model_text}
+use Rattle.dimacs.specs.Text.{model_text, no_model_text}
 use Rattle.proof_check.specs.declared.fault.CheckFault.{CheckFault}
 use Rattle.solver_run.specs.RunLines.{accepted_line, check_reason, fault_line, refused_line, store_line}
 use Rattle.solver_run.specs.Stores.{HasStored, StoreLog, store_failed, stored_file, stored_nothing}
 use Rattle.solver_run.specs.Run.{IsSaid, certificate_of}
+use Rattle.cnf.specs.Clauses.{Formula}
+use Rattle.cnf.specs.Order.{IsLeast}
+use Rattle.sat_core.specs.Solving.{IsRefutation}
+use Rattle.ios_acl.specs.declared.entry.Entry.{Entry}
+use Rattle.frame.specs.declared.comparison.Comparison.{Comparison}
+use Rattle.frame.specs.Comparing.{AreClausesOfTwo}
 
 -- the run ends with this text, or that is cut or can't be made
 pub record Says (before now : SinkLog) (stop : Cause) (text : List ℕ) (end : Cause) : Type 0 where
@@ -57,3 +63,13 @@ pub data Judged (name : List ℕ) (expected : Option CheckFault) (sink sink' : S
   rejected : (fault : CheckFault) (why : Reason) → expected ≡ Some fault → check_reason fault ≡ Some why
       → Says sink sink' cause.Refused (refused_line name 0 why) end → Judged name expected sink sink' end
   wants : end ≡ cause.NoMemory → HasWritten sink sink' [] false → Judged name expected sink sink' end
+
+-- a run ends with what the clauses of a question about two lists have, or memory was wanting for it
+pub data EndsCompared (asked : Comparison) (first second : List Entry) (sink sink' : SinkLog) (end : Cause) : Type 0 where
+  found : (formula : Formula) (values : List Bool) → AreClausesOfTwo asked first second formula
+      → IsLeast formula.vars formula.clauses values → Says sink sink' cause.Satisfiable (model_text values) end
+      → EndsCompared asked first second sink sink' end
+  none : (formula : Formula) (items : List Item) → AreClausesOfTwo asked first second formula
+      → IsRefutation formula.vars formula.clauses items → Says sink sink' cause.Unsatisfiable no_model_text end
+      → EndsCompared asked first second sink sink' end
+  wanted : end ≡ cause.NoMemory → HasWritten sink sink' [] false → EndsCompared asked first second sink sink' end

@@ -37,6 +37,11 @@ returns-in-Check g c =
     let is = rw c.in-Check.is at c.in-Some.ensures.form in
     form_run _ _ (task.check c.in-Check.file.now c.in-Check.name.now) _ _ _ _ _ _ c.check.result is (c.check.ensures (g.T.Store.log c.args.store.now))
 
+pub returns-in-Compare : goal.returns-in-Compare
+returns-in-Compare g c =
+    let is = rw c.in-Compare.is at c.in-Some.ensures.form in
+    form_run _ _ (task.compare c.in-Compare.asked c.in-Compare.first.now c.in-Compare.second.now) _ _ _ _ _ _ c.compare.result is (c.compare.ensures (g.T.Store.log c.args.store.now))
+
 pub returns-in-Gates : goal.returns-in-Gates
 returns-in-Gates g c =
     let is = rw c.in-Gates.is at c.in-Some.ensures.form in
