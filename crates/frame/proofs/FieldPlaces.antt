@@ -11,9 +11,10 @@ use Rattle.circuit.specs.Number.{number}
 use Rattle.circuit.specs.Value.{value}
 use Rattle.circuit.proofs.Numbers.{number-lt, bits_of, number-bits_of}
 use Rattle.ios_acl.specs.declared.packet.Packet.{Packet}
-use Rattle.ios_config.specs.declared.request.Field.{Field}
-use Rattle.ios_config.specs.declared.request.Field.TheVariants as field
-use Rattle.ios_config.specs.Request.{IsRequest, bits, packet_fields}
+use Rattle.sorted_logic.specs.declared.request.Field.{Field}
+use Rattle.sorted_logic.specs.declared.request.Field.TheVariants as field
+use Rattle.sorted_logic.specs.Field.{bits, packet_fields}
+use Rattle.ios_config.specs.Request.{IsRequest}
 use Rattle.frame.specs.Bits.{IsPacketOf, end_bit, field_bits, first_bit}
 use Rattle.frame.specs.Meaning.{HasBits, HoldsFor, IsLeastPacket, Means}
 use Rattle.frame.specs.Scenario.{IsNotBehind, request_of}

@@ -1,7 +1,8 @@
 -- A question has a first request, or none that solves it.
 use Rattle.std.proofs.Common.{◌≡◌, refl, sym, subst, ◌∙◌}
 use Rattle.cnf.specs.Order.{LexLe}
-use Rattle.ios_config.specs.Request.{Request, fields}
+use Rattle.sorted_logic.specs.Field.{fields}
+use Rattle.ios_config.specs.Request.{Request}
 use Rattle.frame.specs.Question.{Question, passes}
 use Rattle.frame.specs.Scenario.{IsFirst, signature, visible}
 use Rattle.frame.specs.Solution.{HasNoSolution, Solves}

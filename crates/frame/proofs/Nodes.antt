@@ -9,7 +9,7 @@ use Rattle.circuit.specs.Number.{number}
 use Rattle.circuit.specs.Value.{AreNodes, Extends, Grows, input_count, value, value_at}
 use Rattle.circuit.proofs.Extend.{AreNodes-extends, Extends-trans, Grows-extends, map-extends, input_count-append}
 use Rattle.ios_acl.specs.declared.packet.Packet.{Packet}
-use Rattle.ios_config.specs.declared.request.Field.{Field}
+use Rattle.sorted_logic.specs.declared.request.Field.{Field}
 use Rattle.frame.specs.Bits.{field_bits}
 use Rattle.frame.specs.Meaning.{Adds, HasBits, HasInputs, Means}
 use Rattle.frame.specs.Scenario.{request_of}

@@ -2,9 +2,10 @@
 use Rattle.std.proofs.Common.{◌≡◌, ℕ, List, [], ◌∷◌, map, sym}
 use Rattle.std.specs.List.{AllByRecursion}
 use Rattle.std.proofs.Math.Path.{fun_ext}
-use Rattle.ios_config.specs.declared.request.Field.{Field}
-use Rattle.ios_config.specs.declared.request.Field.TheVariants as field
-use Rattle.ios_config.specs.Request.{Request, fields}
+use Rattle.sorted_logic.specs.declared.request.Field.{Field}
+use Rattle.sorted_logic.specs.declared.request.Field.TheVariants as field
+use Rattle.sorted_logic.specs.Field.{fields}
+use Rattle.ios_config.specs.Request.{Request}
 use Rattle.frame.specs.Question.{Question}
 use Rattle.frame.specs.Scenario.{IsFirst, signature, values}
 use Rattle.frame.proofs.Dictionary.{IsNotBehind-antisym, LexLe-antisym}

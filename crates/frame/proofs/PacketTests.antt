@@ -7,8 +7,8 @@ use Rattle.ios_acl.specs.declared.packet.Packet.{Packet}
 use Rattle.ios_acl.specs.declared.entry.Entry.{Entry}
 use Rattle.ios_acl.specs.Matching.{matches, matches_code, matches_established, matches_icmp, matches_port, matches_protocol}
 use Rattle.bit_patterns.specs.Patterns.{agrees}
-use Rattle.ios_config.specs.declared.request.Field.{Field}
-use Rattle.ios_config.specs.declared.request.Field.TheVariants as field
+use Rattle.sorted_logic.specs.declared.request.Field.{Field}
+use Rattle.sorted_logic.specs.declared.request.Field.TheVariants as field
 use Rattle.decision_diagram.specs.Table.{HasValue, LooksFrom, Table, choice, value_in}
 use Rattle.decision_diagram.specs.Tests.{number_of}
 use Rattle.decision_diagram.proofs.Extending.{looks_earlier}

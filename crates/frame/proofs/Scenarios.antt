@@ -9,9 +9,10 @@ use Rattle.ios_acl.specs.declared.entry.Verdict.{Verdict}
 use Rattle.ios_acl.specs.declared.entry.Verdict.TheVariants as verdict
 use Rattle.ios_acl.specs.declared.packet.Packet.{Packet}
 use Rattle.ios_acl.specs.Decision.{decision}
-use Rattle.ios_config.specs.declared.request.Field.{Field}
-use Rattle.ios_config.specs.declared.request.Field.TheVariants as field
-use Rattle.ios_config.specs.Request.{IsPacketIn, IsRequest, Request, bits, packet_fields}
+use Rattle.sorted_logic.specs.declared.request.Field.{Field}
+use Rattle.sorted_logic.specs.declared.request.Field.TheVariants as field
+use Rattle.sorted_logic.specs.Field.{bits, packet_fields}
+use Rattle.ios_config.specs.Request.{IsPacketIn, IsRequest, Request}
 use Rattle.frame.specs.declared.question.Test.{Test}
 use Rattle.frame.specs.Meaning.{HoldsFor, IsLeastPacket, decides, is_permit}
 use Rattle.frame.specs.Question.{IsOfPacket, asked, passes}

@@ -5,9 +5,9 @@ use Rattle.std.proofs.lemmas.Bool.{and_from, and_parts, eq-eqb, eqb-true, false_
 use Rattle.std.proofs.lemmas.List.{take_more}
 use Rattle.std.proofs.lemmas.List.Elements.{filter-append}
 use Rattle.std.proofs.lemmas.Map.Views.{any-filter_same}
-use Rattle.ios_config.specs.declared.request.Field.{Field}
-use Rattle.ios_config.specs.declared.request.Field.TheVariants as field
-use Rattle.ios_config.specs.Request.{fields, place}
+use Rattle.sorted_logic.specs.declared.request.Field.{Field}
+use Rattle.sorted_logic.specs.declared.request.Field.TheVariants as field
+use Rattle.sorted_logic.specs.Field.{fields, place}
 use Rattle.frame.specs.declared.question.Pattern.{Pattern}
 use Rattle.frame.specs.declared.question.Pattern.TheVariants as pattern
 use Rattle.frame.specs.declared.question.Test.{Test}

@@ -2,8 +2,8 @@
 use Rattle.std.specs.Prelude.{◌≡◌, ℕ, Bool, List, length, slice_range}
 use Rattle.circuit.specs.Number.{number}
 use Rattle.ios_acl.specs.declared.packet.Packet.{Packet}
-use Rattle.ios_config.specs.declared.request.Field.{Field}
-use Rattle.ios_config.specs.declared.request.Field.TheVariants as field
+use Rattle.sorted_logic.specs.declared.request.Field.{Field}
+use Rattle.sorted_logic.specs.declared.request.Field.TheVariants as field
 use Rattle.frame.specs.Scenario.{request_of}
 
 -- the first bit of a field, and the first after it; the same for a field that is not the packet's

@@ -10,7 +10,8 @@ use Rattle.ios_acl.specs.declared.entry.Verdict.{Verdict}
 use Rattle.ios_acl.specs.declared.entry.Verdict.TheVariants as verdict
 use Rattle.ios_acl.specs.declared.packet.Packet.{Packet}
 use Rattle.ios_acl.specs.Decision.{decision}
-use Rattle.ios_config.specs.Request.{IsRequest, packet_fields}
+use Rattle.sorted_logic.specs.Field.{packet_fields}
+use Rattle.ios_config.specs.Request.{IsRequest}
 use Rattle.frame.specs.declared.question.Test.{Test}
 use Rattle.frame.specs.Bits.{IsPacketOf}
 use Rattle.frame.specs.Question.{passes}

@@ -2,7 +2,7 @@
 use Rattle.std.specs.Prelude.{◌≡◌, ℕ, ◌≤◌, ◌&&◌, not, Bool, List}
 use Rattle.ios_acl.specs.declared.entry.Entry.{Entry}
 use Rattle.ios_acl.specs.declared.packet.Packet.{Packet}
-use Rattle.ios_config.specs.declared.request.Field.{Field}
+use Rattle.sorted_logic.specs.declared.request.Field.{Field}
 use Rattle.decision_diagram.specs.Table.{IsOf, LooksFrom, Table, diagram, value_in}
 use Rattle.decision_diagram.specs.Listing.{size}
 use Rattle.frame.specs.Bits.{IsPacketOf, end_bit, first_bit}

@@ -3,7 +3,8 @@ use Rattle.std.specs.Prelude.{ℕ, Bool, List, Contains}
 use Rattle.bit_patterns.specs.Patterns.{agrees, within}
 use Rattle.ios_acl.specs.declared.entry.Entry.{Entry}
 use Rattle.ios_acl.specs.declared.entry.Verdict.{Verdict}
-use Rattle.ios_config.specs.Request.{Request, packet_fields}
+use Rattle.sorted_logic.specs.Field.{packet_fields}
+use Rattle.ios_config.specs.Request.{Request}
 use Rattle.frame.specs.declared.question.Pattern.{Pattern}
 use Rattle.frame.specs.declared.question.Pattern.TheVariants as pattern
 use Rattle.frame.specs.declared.question.Test.{Test}

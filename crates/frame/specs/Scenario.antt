@@ -3,8 +3,9 @@ use Rattle.std.specs.Prelude.{◌≡◌, ◌⊎◌, ◌==◌, ◌&&◌, not, ℕ
 use Rattle.std.specs.List.{filter}
 use Rattle.cnf.specs.Order.{LexLe}
 use Rattle.ios_acl.specs.declared.packet.Packet.{Packet}
-use Rattle.ios_config.specs.declared.request.Field.TheVariants as field
-use Rattle.ios_config.specs.Request.{Request, fields, place}
+use Rattle.sorted_logic.specs.declared.request.Field.TheVariants as field
+use Rattle.sorted_logic.specs.Field.{fields, place}
+use Rattle.ios_config.specs.Request.{Request}
 use Rattle.frame.specs.declared.question.Pattern.{Pattern}
 use Rattle.frame.specs.declared.question.Pattern.TheVariants as pattern
 use Rattle.frame.specs.declared.question.Test.{Test}

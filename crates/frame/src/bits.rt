@@ -3,7 +3,7 @@ ghost use Rattle.circuit.specs.Number.{number};
 ghost use Rattle.frame.specs.Bits.{IsPacketOf, end_bit, field_bits, first_bit};
 
 use ios_acl::Packet;
-use ios_config::Field;
+use sorted_logic::Field;
 
 /// The bits of a field among the 126 bits of a packet; of a field that is not the packet's, none.
 pub(crate) fn field_bits<T: Copy>(bits: &[T], field: Field) -> &[T]

@@ -4,13 +4,13 @@ ghost use Rattle.ios_acl.specs.Matching.{matches, matches_code, matches_establis
 ghost use Rattle.decision_diagram.specs.Table.{Extends};
 ghost use Rattle.frame.specs.PacketDiagrams.{IsBehind, MeansIn, Narrows};
 ghost use Rattle.frame.specs.Scenario.{request_of};
-ghost use Rattle.ios_config.specs.declared.request.Field.TheVariants as field;
+ghost use Rattle.sorted_logic.specs.declared.request.Field.TheVariants as field;
 
 use crate::NoMemory;
 use crate::packet_diagrams::PacketDiagrams;
 use decision_diagram::Diagram;
 use ios_acl::{Entry, Ports};
-use ios_config::Field;
+use sorted_logic::Field;
 
 /// The diagram that is true where the entry matches the packet. Its tests are made from the last bits of a packet to the
 /// first, so that each stands before what it narrows.

@@ -8,7 +8,7 @@ use crate::NoMemory;
 use crate::packet_circuit::PacketCircuit;
 use circuit::Node;
 use ios_acl::{Entry, Ports};
-use ios_config::Field;
+use sorted_logic::Field;
 use std::alloc::Global;
 
 /// Adds a node that is true where the entry matches the packet. What the entry does not test adds no gates.

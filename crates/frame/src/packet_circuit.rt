@@ -15,7 +15,7 @@ use crate::packet_diagrams::PacketDiagrams;
 use circuit::{Circuit, Node, to_cnf};
 use cnf::Cnf;
 use decision_diagram::{Diagram, gates};
-use ios_config::Field;
+use sorted_logic::Field;
 use std::alloc::Global;
 use std::marker::Model;
 

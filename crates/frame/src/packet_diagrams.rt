@@ -11,7 +11,7 @@ ghost use Rattle.frame.specs.Scenario.{request_of};
 use crate::NoMemory;
 use crate::bits::field_place;
 use decision_diagram::{Diagram, DiagramFault, Diagrams};
-use ios_config::Field;
+use sorted_logic::Field;
 use std::alloc::{AllocError, Global};
 use std::marker::Model;
 

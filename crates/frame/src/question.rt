@@ -1,7 +1,7 @@
 ghost use Rattle.std.specs.Prelude.{◌≡◌, ◌<◌, Bool, length, IfOk, ◌&&◌};
 ghost use Rattle.std.specs.List.{list_any, AllByRecursion};
 ghost use Rattle.ios_acl.specs.declared.packet.Packet.{Packet};
-ghost use Rattle.ios_config.specs.Request.{place};
+ghost use Rattle.sorted_logic.specs.Field.{place};
 ghost use Rattle.frame.specs.Meaning.{Adds, Means, passes_all};
 ghost use Rattle.frame.specs.Asking.{AreClausesOf};
 ghost use Rattle.frame.specs.Question.{IsOfPacket, accepts, asked, passes};
@@ -16,7 +16,7 @@ use bit_patterns::agrees;
 use circuit::Node;
 use cnf::Cnf;
 use ios_acl::{Entry, Verdict};
-use ios_config::Field;
+use sorted_logic::Field;
 use std::alloc::Global;
 
 /// What is asked of a number: one of two tests.

@@ -12,7 +12,7 @@ use crate::NoMemory;
 use crate::question::{Pattern, Test};
 use bit_patterns::agrees;
 use ios_acl::{Entry, Ports};
-use ios_config::Field;
+use sorted_logic::Field;
 use std::alloc::Global;
 
 /// The entries that may match a packet which passes the tests, in their order. For such packets they decide what all

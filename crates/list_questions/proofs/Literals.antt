@@ -2,7 +2,7 @@
 use Rattle.std.proofs.Common.{◌≡◌, ◌<◌, ◌+◌, ℕ, zero, suc, List, [], ◌∷◌, Option, Some, None, length, get_or, drop, sym, ◌∙◌, refl, arith}
 use Rattle.std.specs.Option.{option_or}
 use Rattle.std.proofs.lemmas.Grind.{common_steps}
-use Rattle.ios_config.specs.declared.request.Field.{Field}
+use Rattle.sorted_logic.specs.declared.request.Field.{Field}
 use Rattle.query_lang.specs.declared.literal.Literal.{Literal}
 use Rattle.list_questions.specs.declared.packet.LiteralFault.{LiteralFault}
 use Rattle.list_questions.specs.Ranges.{fault_of, literal_fault}

@@ -5,8 +5,8 @@ use Rattle.std.specs.Option.{IfSome, IfNone}
 use Rattle.std.specs.Str.{bytes_eq}
 use Rattle.std.proofs.lemmas.List.Elements.{All-contains, All-from_recursion}
 use Rattle.std.proofs.lemmas.Slice.Eq.{bytes_eq-Decides}
-use Rattle.ios_config.specs.declared.request.Field.{Field}
-use Rattle.ios_config.specs.Request.{IsNamed, field_name, packet_fields}
+use Rattle.sorted_logic.specs.declared.request.Field.{Field}
+use Rattle.sorted_logic.specs.Field.{IsNamed, field_name, packet_fields}
 use Rattle.list_questions.specs.Shapes.{packet_field}
 
 record IsFound {X : Type 0} (p : X → Bool) (xs : List X) (y : X) : Type 0 where

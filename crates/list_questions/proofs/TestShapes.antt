@@ -1,7 +1,7 @@
 -- What is read off formulas are their tests.
 use Rattle.std.proofs.Common.{◌≡◌, ◌<◌, ◌+◌, ℕ, List, [], ◌∷◌, ◌++◌, Option, Some, None, length, get_or, drop, ap, refl, subst, append_assoc, arith}
 use Rattle.std.proofs.lemmas.Grind.{common_steps}
-use Rattle.ios_config.specs.declared.request.Field.{Field}
+use Rattle.sorted_logic.specs.declared.request.Field.{Field}
 use Rattle.query_lang.specs.declared.formula.Named.{Named}
 use Rattle.query_lang.specs.declared.formula.Named.TheVariants as named
 use Rattle.query_lang.specs.declared.literal.Literal.{Literal}

@@ -3,8 +3,8 @@ use Rattle.std.specs.Prelude.{◌≡◌, ℕ, List, [], ◌∷◌, codes}
 use Rattle.std.specs.List.{AllZip}
 use Rattle.ios_acl.specs.declared.entry.Verdict.{Verdict}
 use Rattle.ios_acl.specs.declared.entry.Verdict.TheVariants as verdict
-use Rattle.ios_config.specs.declared.request.Field.{Field}
-use Rattle.ios_config.specs.Request.{IsNamed}
+use Rattle.sorted_logic.specs.declared.request.Field.{Field}
+use Rattle.sorted_logic.specs.Field.{IsNamed}
 use Rattle.query_lang.specs.declared.formula.Named.{Named}
 use Rattle.query_lang.specs.declared.formula.Named.TheVariants as named
 use Rattle.query_lang.specs.declared.literal.Literal.TheVariants as literal

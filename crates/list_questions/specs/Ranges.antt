@@ -3,8 +3,8 @@ use Rattle.std.specs.Prelude.{◌≡◌, ◌&&◌, ◌^◌, ℕ, Bool, nat_lt, n
 use Rattle.std.specs.Option.{option_map_or, option_or}
 use Rattle.std.specs.Str.{bytes_eq}
 use Rattle.ios_acl.specs.declared.packet.Packet.{Packet}
-use Rattle.ios_config.specs.declared.request.Field.{Field}
-use Rattle.ios_config.specs.Request.{bits, packet_fields}
+use Rattle.sorted_logic.specs.declared.request.Field.{Field}
+use Rattle.sorted_logic.specs.Field.{bits, packet_fields}
 use Rattle.frame.specs.declared.question.Pattern.TheVariants as pattern
 use Rattle.frame.specs.declared.question.Test.{Test}
 use Rattle.frame.specs.Scenario.{request_of}

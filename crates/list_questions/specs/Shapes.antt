@@ -2,8 +2,8 @@
 use Rattle.std.specs.Prelude.{◌≡◌, ℕ, List, [], ◌∷◌, Option, Some, None, find}
 use Rattle.std.specs.Str.{bytes_eq}
 use Rattle.ios_acl.specs.declared.entry.Verdict.{Verdict}
-use Rattle.ios_config.specs.declared.request.Field.{Field}
-use Rattle.ios_config.specs.Request.{field_name, packet_fields}
+use Rattle.sorted_logic.specs.declared.request.Field.{Field}
+use Rattle.sorted_logic.specs.Field.{field_name, packet_fields}
 use Rattle.query_lang.specs.declared.formula.Named.{Named}
 use Rattle.query_lang.specs.declared.formula.Named.TheVariants as named
 use Rattle.query_lang.specs.declared.literal.Literal.{Literal}

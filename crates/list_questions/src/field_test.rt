@@ -2,8 +2,8 @@ ghost use Rattle.std.specs.Prelude.{◌≡◌, IfOk};
 ghost use Rattle.list_questions.specs.Shapes.{field_of, masked_test, number_of, range_test, read_test, read_tests};
 
 use crate::NoMemory;
-use ios_config::Field;
 use query_lang::{Literal, Named, NamedTerm};
+use sorted_logic::Field;
 use sqlite_items::Items;
 use std::alloc::Global;
 

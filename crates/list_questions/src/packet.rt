@@ -1,12 +1,12 @@
 ghost use Rattle.std.specs.Prelude.{◌≡◌, ◌<◌, ◌^◌, Some, None, length, IfOk, IfErr, OnOk};
-ghost use Rattle.ios_config.specs.Request.{bits, packet_fields};
+ghost use Rattle.sorted_logic.specs.Field.{bits, packet_fields};
 ghost use Rattle.list_questions.specs.Ranges.{ArePacket, fault_of, literal_fault, number_fault, number_in};
 
 use crate::range::bound;
 use ios_acl::Packet;
-use ios_config::Field;
 use ios_names::NameTable;
 use query_lang::Literal;
+use sorted_logic::Field;
 
 /// Why literals are no packet.
 #[derive(Clone, Copy, Debug, PartialEq, Eq)]

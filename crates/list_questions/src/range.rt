@@ -1,12 +1,12 @@
 ghost use Rattle.std.specs.Prelude.{◌≡◌, ◌^◌, true, map, IfOk};
 ghost use Rattle.std.specs.List.{list_all};
-ghost use Rattle.ios_config.specs.Request.{bits};
+ghost use Rattle.sorted_logic.specs.Field.{bits};
 ghost use Rattle.list_questions.specs.Ranges.{test_fits, test_of};
 
 use crate::NoMemory;
 use crate::field_test::FieldTest;
 use frame::{Pattern, Test};
-use ios_config::Field;
+use sorted_logic::Field;
 use std::alloc::Global;
 
 /// Whether the numbers of the test are numbers of its field, and a range does not end before it begins.

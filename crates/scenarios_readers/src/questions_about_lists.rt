@@ -1,11 +1,10 @@
 use frame::{Pattern, Test};
 use ios_acl::Packet;
-use ios_config::Field;
 use ios_lex::Word;
 use ios_names::NameTable;
 use list_questions::{FieldTest, LiteralFault, fits, packet_of, tests_of};
 use query_lang::Literal;
-use sorted_logic::Text;
+use sorted_logic::{Field, Text};
 use std::alloc::Global;
 use std::test::Fail;
 use test_tables::{answered, push_packet};

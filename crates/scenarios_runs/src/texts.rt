@@ -1,8 +1,8 @@
 use frame::{Pattern, Test};
 use ios_acl::{Packet, Verdict};
-use ios_config::Field;
 use ios_names::NameTable;
 use session::{Counts, KnownNames, decision_text, loaded_text, no_scenario_text, scenario_text};
+use sorted_logic::Field;
 use std::alloc::Global;
 use std::test::Fail;
 use test_tables::answered;

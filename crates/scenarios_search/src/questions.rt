@@ -1,13 +1,13 @@
 ghost use Rattle.std.specs.Prelude.{◌≡◌, ◌<◌, IfOk, Contains};
 ghost use Rattle.std.specs.List.{AllByRecursion};
-ghost use Rattle.ios_config.specs.Request.{packet_fields};
+ghost use Rattle.sorted_logic.specs.Field.{packet_fields};
 ghost use Rattle.frame.specs.Question.{IsOfPacket};
 
 use frame::{Pattern, Test, first_or_none, one_first, shown_once, visible};
 use ios_acl::{Entry, Packet, Ports, Verdict};
-use ios_config::Field;
 use list_questions::first_packet;
 use sat_core::Steps;
+use sorted_logic::Field;
 use std::alloc::{AllocError, Global};
 use std::marker::Brand;
 use std::sync::ledger::{Blank, Ledger};

@@ -4,9 +4,9 @@ use Rattle.std.specs.Bool.{if◌then◌else◌}
 use Rattle.std.specs.Option.{option_map_or}
 use Rattle.std.proofs.lemmas.Bool.{ltb-true}
 use Rattle.ios_acl.specs.declared.packet.Packet.{Packet}
-use Rattle.ios_config.specs.declared.request.Field.{Field}
-use Rattle.ios_config.specs.declared.request.Field.TheVariants as field
-use Rattle.ios_config.specs.Request.{packet_fields}
+use Rattle.sorted_logic.specs.declared.request.Field.{Field}
+use Rattle.sorted_logic.specs.declared.request.Field.TheVariants as field
+use Rattle.sorted_logic.specs.Field.{packet_fields}
 use Rattle.query_lang.specs.declared.literal.Literal.{Literal}
 use Rattle.list_questions.specs.declared.packet.LiteralFault.TheVariants as fault
 use Rattle.list_questions.specs.Ranges.{ArePacket, fault_of, is_number_of, literal_fault, number_fault, number_in}

@@ -4,7 +4,7 @@ use Rattle.std.specs.List.{list_all}
 use Rattle.std.proofs.lemmas.Bool.{cases_lt, false≢true}
 use Rattle.mg_outside.specs.Reading.{Gives}
 use Rattle.ios_acl.specs.List.{AccessList}
-use Rattle.ios_config.specs.Request.{packet_fields}
+use Rattle.sorted_logic.specs.Field.{packet_fields}
 use Rattle.ios_config.proofs.SomeReading.{some_reading}
 use Rattle.frame.proofs.FirstOrNone.{first_or_none}
 use Rattle.list_questions.specs.declared.packet.LiteralFault.{LiteralFault}

@@ -10,7 +10,8 @@ use Rattle.ios_acl.specs.Decision.{decision}
 use Rattle.ios_acl.specs.List.{AccessList}
 use Rattle.ios_config.specs.Reading as config
 use Rattle.ios_config.specs.Router.{Router, names_of}
-use Rattle.ios_config.specs.Request.{Request, packet_fields}
+use Rattle.sorted_logic.specs.Field.{packet_fields}
+use Rattle.ios_config.specs.Request.{Request}
 use Rattle.ios_names.specs.Names.{with_names}
 use Rattle.query_lang.specs.declared.literal.Literal.{Literal}
 use Rattle.query_lang.specs.declared.literal.Path.{Path}

@@ -4,8 +4,9 @@ use Rattle.std.specs.Fmt.{decimal}
 use Rattle.std.specs.List.{flat_map}
 use Rattle.ios_acl.specs.declared.entry.Verdict.{Verdict}
 use Rattle.ios_acl.specs.declared.entry.Verdict.TheVariants as verdict
-use Rattle.ios_config.specs.declared.request.Field.{Field}
-use Rattle.ios_config.specs.Request.{Request, field_name, fields}
+use Rattle.sorted_logic.specs.declared.request.Field.{Field}
+use Rattle.sorted_logic.specs.Field.{field_name, fields}
+use Rattle.ios_config.specs.Request.{Request}
 use Rattle.frame.specs.declared.question.Test.{Test}
 use Rattle.frame.specs.Question.{passes}
 use Rattle.frame.specs.Scenario.{visible}

@@ -2,7 +2,7 @@ ghost use Rattle.std.specs.Prelude.{◌≡◌, ◌++◌, ℕ, Option, IfOk, OnOk
 ghost use Rattle.std.specs.Fmt.{decimal};
 ghost use Rattle.std.specs.String.{string_bytes};
 ghost use Rattle.std.specs.List.{flat_map};
-ghost use Rattle.ios_config.specs.Request.{fields};
+ghost use Rattle.sorted_logic.specs.Field.{fields};
 ghost use Rattle.frame.specs.Scenario.{request_of};
 ghost use Rattle.frame.specs.Question.{passes};
 ghost use Rattle.session.specs.Text.{decision_line, entry_text, loaded_line, no_scenario, scenario};
@@ -15,7 +15,7 @@ use crate::known_names::KnownNames;
 use crate::value::{Shown, ShownPattern, is_interface};
 use frame::{Test, visible};
 use ios_acl::{Packet, Verdict};
-use ios_config::Field;
+use sorted_logic::Field;
 use std::alloc::Global;
 
 /// What SHOW ONE writes where there is no scenario.

@@ -2,8 +2,8 @@ ghost use Rattle.std.specs.Prelude.{◌≡◌};
 ghost use Rattle.session.specs.Value.{is_address, is_interface};
 
 use frame::Pattern;
-use ios_config::Field;
 use ios_lex::Dotted;
+use sorted_logic::Field;
 use std::fmt;
 
 /// A value as its field is written: an address with dots, each other one as a number.

@@ -2,7 +2,7 @@
 use Rattle.std.proofs.Common.{◌≡◌, Bool, List, ◌≤◌, length, drop, slice_range, refl, arith, length-take, length-drop}
 use Rattle.circuit.specs.Number.{number}
 use Rattle.ios_acl.specs.declared.packet.Packet.{Packet}
-use Rattle.ios_config.specs.declared.request.Field.TheVariants as field
+use Rattle.sorted_logic.specs.declared.request.Field.TheVariants as field
 use Rattle.frame.specs.Bits.{IsPacketOf, field_bits}
 use Rattle.frame.proofs.FieldPlaces.{IsPacketOf-numbers, field_bound}
 

@@ -1,0 +1,15 @@
+pub mod Field
+pub mod Signature
+pub mod Base
+pub mod Adding
+pub mod Joining
+pub mod Universe
+pub mod Syntax
+pub mod Trees
+pub mod Truth
+pub mod Sorting
+pub mod Numbers
+pub mod Variables
+pub mod Finite
+pub mod Laws
+pub mod Inside

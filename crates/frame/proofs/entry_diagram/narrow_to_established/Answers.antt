@@ -1,6 +1,6 @@
 use Rattle.std.proofs.Common.{refl}
 use Rattle.ios_acl.specs.Matching.{matches_established}
-use Rattle.ios_config.specs.declared.request.Field.TheVariants as field
+use Rattle.sorted_logic.specs.declared.request.Field.TheVariants as field
 use Rattle.frame.proofs.FieldPlaces.{field_bound}
 use Rattle.frame.proofs.MatchTests.{established_flags}
 use Rattle.frame.proofs.PacketTests.{narrows_as, narrows_nothing}

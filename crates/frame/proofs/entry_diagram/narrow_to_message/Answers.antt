@@ -1,6 +1,6 @@
 use Rattle.std.proofs.Common.{refl, arith}
 use Rattle.ios_acl.specs.Matching.{matches_icmp}
-use Rattle.ios_config.specs.declared.request.Field.TheVariants as field
+use Rattle.sorted_logic.specs.declared.request.Field.TheVariants as field
 use Rattle.decision_diagram.proofs.Extending.{looks_earlier}
 use Rattle.frame.proofs.PacketTests.{narrows_nothing}
 use Rattle.frame.proofs.entry_diagram.narrow_to_message.Goals as goal

@@ -2,7 +2,7 @@ use Rattle.std.proofs.Common.{ℕ, List, [], ◌∷◌, Some, None, ◌≡◌, �
 use Rattle.std.specs.String.{string_bytes}
 use Rattle.std.proofs.lemmas.Result.{on_ok_weaker, IfErr-weaker}
 use Rattle.ios_acl.specs.Decision.{decision}
-use Rattle.ios_config.specs.Request.{packet_fields}
+use Rattle.sorted_logic.specs.Field.{packet_fields}
 use Rattle.list_questions.specs.Ranges.{ArePacket, literal_fault}
 use Rattle.mg_outside.proofs.EffectLaws.{has_read_nothing, has_written_nothing}
 use Rattle.query_lang.specs.declared.script.Kind.TheVariants as kind

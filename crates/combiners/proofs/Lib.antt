@@ -1,0 +1,9 @@
+pub mod Unfolding
+pub mod Connectives
+pub mod RuleFormulas
+pub mod PolicyFormulas
+pub mod UnfoldedSets
+pub mod PlainRules
+pub mod PlainTrees
+pub mod Quantifiers
+pub mod Meanings

@@ -1,0 +1,10 @@
+use Rattle.std.proofs.Common.{◌≡◌, ◌++◌, map, drop}
+use Rattle.sorted_logic.specs.Trees.{formula_tree}
+use Rattle.combiners.specs.Making.{matching_of}
+use Rattle.combiners.specs.Tree.{plain_rules}
+use Rattle.combiners.proofs.rules.matching_of.Given as goal
+
+-- with those of the other rules they are all
+abbrev pub invariant-loop-rule : goal.invariant-loop-rule
+invariant-loop-rule l = map formula_tree l.parts ++ matching_of l.decision (plain_rules (drop l.rule-index l.rules))
+    ≡ matching_of l.decision (plain_rules l.rules)
