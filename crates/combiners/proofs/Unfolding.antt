@@ -1,5 +1,5 @@
 -- The trees of policies, a level at a time.
-use Rattle.std.proofs.Common.{◌≡◌, ◌≢◌, ◌<◌, ◌≤◌, ◌-◌, ℕ, zero, suc, List, [], ◌∷◌, Some, length, map, drop, slice_get, slice_index, refl, sym, ap, ◌∙◌, arith}
+use Rattle.std.proofs.Common.{◌≡◌, ◌≢◌, ◌<◌, ◌≤◌, ◌-◌, ℕ, zero, suc, List, [], ◌∷◌, Some, None, length, map, drop, slice_get, slice_index, refl, sym, ap, ◌∙◌, arith}
 use Rattle.std.proofs.Math.Seq.{drop-cons}
 use Rattle.std.proofs.lemmas.Option.{slice_get_within}
 use Rattle.sorted_logic.specs.Syntax.{FormulaTree}
@@ -9,7 +9,7 @@ use Rattle.combiners.specs.declared.policy.PolicySet.{PolicySet}
 use Rattle.combiners.specs.declared.policy.Rule.{Rule}
 use Rattle.combiners.specs.Inside.ChildFormulas.{child_formulas}
 use Rattle.combiners.specs.Making.{decision_of_children, decision_of_rules, decision_tree, decisions_below, first_child, member_trees, with_child}
-use Rattle.combiners.specs.Tree.{child_chain, plain_rules, policy_tree, tree_from, tree_of, tree_within, with_children, with_rules}
+use Rattle.combiners.specs.Tree.{child_chain, empty_tree, plain_rules, policy_tree, tree_from, tree_of, tree_within, with_children, with_rules}
 
 -- the tree of a policy at some level
 pub tree_at : (set : PolicySet) (levels place : ℕ) (policy : Policy) → levels ≢ 0 → slice_get set.policies place ≡ Some policy
@@ -35,6 +35,21 @@ pub tree_of_rules : (set : PolicySet) (place : ℕ) (policy : Policy) (rules : L
 tree_of_rules set place policy rules h p =
     let l = slice_get_within set.policies place policy h in
     tree_at_rules set (length set.policies) place policy (λ z. absurd (omega (arith, l, z))) h rules p
+
+pub tree_of_children : (set : PolicySet) (place : ℕ) (policy : Policy) (places : List ℕ) → slice_get set.policies place ≡ Some policy
+    → policy.parts ≡ parts_of.Children places → tree_of set place ≡ with_children policy.comb (length policy.decisions)
+    (child_chain (map (tree_within set (length set.policies - 1)) places))
+tree_of_children set place policy places h p =
+    let l = slice_get_within set.policies place policy h in
+    tree_at_children set (length set.policies) place policy (λ z. absurd (omega (arith, l, z))) h places p
+
+-- where there is no policy, nothing is decided
+pub tree_of_none : (set : PolicySet) (place : ℕ) → slice_get set.policies place ≡ None → tree_of set place ≡ empty_tree
+tree_of_none set place h = go (length set.policies)
+  where
+    go : (levels : ℕ) → tree_within set levels place ≡ empty_tree
+    go zero = refl
+    go (suc levels) = rw h refl
 
 pub members : (set : PolicySet) (levels : ℕ) (places : List ℕ)
     → member_trees (child_chain (map (tree_within set levels) places)) ≡ child_formulas set levels places

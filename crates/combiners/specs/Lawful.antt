@@ -70,11 +70,7 @@ pub record IsLawful (sig : Signature) (set : PolicySet) : Type 0 where
   pub policies : AllByRecursion (IsLawfulPolicy sig set) set.policies
   pub acyclic : (place : ℕ) → place < length set.policies → EndsWithin set (length set.policies) place
 
--- what lies at a place of a set: a policy, and a decision or a rule of it
-pub record HasPolicy (set : PolicySet) (place : ℕ) : Type 0 where
-  pub policy : Policy
-  pub there : slice_get set.policies place ≡ Some policy
-
+-- what lies at a place of a set: a decision of a policy, or a rule of it
 pub record HasDecision (set : PolicySet) (place d : ℕ) : Type 0 where
   pub policy : Policy
   pub there : slice_get set.policies place ≡ Some policy

@@ -1,13 +1,11 @@
 //! The formulas of policy atoms, which a set's policies are asked for by place.
 
 ghost use Rattle.std.specs.Prelude.{◌≡◌, ◌↔◌, ℕ, Bool, List, IfOk};
-ghost use Rattle.sorted_logic.specs.Signature.{Signature};
 ghost use Rattle.sorted_logic.specs.Syntax.{decides, matches, applies};
 ghost use Rattle.sorted_logic.specs.Trees.{formula_tree};
 ghost use Rattle.sorted_logic.specs.Truth.{no_policies, HasTruthValue};
 ghost use Rattle.sorted_logic.specs.Universe.{Universe};
 ghost use Rattle.combiners.specs.Combining.{policies_of};
-ghost use Rattle.combiners.specs.Lawful.{HasDecision, HasRule, IsLawful};
 ghost use Rattle.combiners.specs.Making as specs;
 ghost use Rattle.combiners.specs.Tree.{tree_of};
 
@@ -24,8 +22,6 @@ pub fn decision_formula(
     policy: u32,
     decision: u32,
 ) -> Result<Formula, AllocError>
-    requires lawful { (sig : Signature) × IsLawful sig p.now }
-    requires there { HasDecision p.now policy decision }
     ensures formula { IfOk result (λ made. formula_tree made
         ≡ specs.decision_tree (tree_of p.now policy) decision) }
     ensures meaning { IfOk result (λ made. (u : Universe) (value : Bool) (elements : List ℕ)
@@ -42,8 +38,6 @@ pub fn matches_formula(
     policy: u32,
     rule: u32,
 ) -> Result<Formula, AllocError>
-    requires lawful { (sig : Signature) × IsLawful sig p.now }
-    requires there { HasRule p.now policy rule }
     ensures formula { IfOk result (λ made. formula_tree made
         ≡ specs.matches_tree (tree_of p.now policy) rule) }
     ensures meaning { IfOk result (λ made. (u : Universe) (value : Bool) (elements : List ℕ)
@@ -60,8 +54,6 @@ pub fn applies_formula(
     policy: u32,
     rule: u32,
 ) -> Result<Formula, AllocError>
-    requires lawful { (sig : Signature) × IsLawful sig p.now }
-    requires there { HasRule p.now policy rule }
     ensures formula { IfOk result (λ made. formula_tree made
         ≡ specs.applies_tree (tree_of p.now policy) rule) }
     ensures meaning { IfOk result (λ made. (u : Universe) (value : Bool) (elements : List ℕ)
@@ -77,7 +69,6 @@ fn matches_at(
     place: u32,
     rule: usize,
 ) -> Result<Formula, AllocError>
-    requires { HasRule set.now place rule }
     ensures { IfOk result (λ made. formula_tree made
         ≡ specs.matches_tree (tree_of set.now place) rule) }
 {
@@ -96,7 +87,6 @@ fn applies_at(
     place: u32,
     rule: usize,
 ) -> Result<Formula, AllocError>
-    requires { HasRule set.now place rule }
     ensures { IfOk result (λ made. formula_tree made
         ≡ specs.applies_tree (tree_of set.now place) rule) }
 {

@@ -2,9 +2,7 @@
 
 ghost use Rattle.std.specs.Prelude.{◌≡◌, IsTrue, map};
 ghost use Rattle.std.specs.List.{list_all, list_any};
-ghost use Rattle.sorted_logic.specs.Signature.{Signature};
 ghost use Rattle.sorted_logic.specs.Trees.{formula_tree};
-ghost use Rattle.combiners.specs.Lawful.{HasPolicy, IsLawful};
 ghost use Rattle.combiners.specs.Plainness as specs;
 ghost use Rattle.combiners.specs.Tree.{plain_rule, plain_rules, tree_of, tree_within};
 
@@ -13,8 +11,6 @@ use sorted_logic::Formula;
 
 /// The policy, with all its children, has no local variable and no quantifier. Takes no memory.
 pub fn is_plain(p: &PolicySet, policy: u32) -> bool
-    requires lawful { (sig : Signature) × IsLawful sig p.now }
-    requires there { HasPolicy p.now policy }
     ensures { result ≡ specs.is_plain (tree_of p.now policy) }
 {
     is_plain_within(p, p.policies.len(), policy)
